@@ -1,0 +1,86 @@
+-- Laws of stores into a list, and of appending.
+use Prim.Native.Nat.{ℕ, zero, suc, _+_, _-_, _≤_, _<_}
+use mathlib.Core.Path.{_≡_, refl, ap, sym, _∙_}
+use mathlib.Core.List.{List, [], _∷_, _++_, append-nil}
+use mathlib.Core.Bool.{true, false}
+use native.Mathlib.Nat.{add-zero, add-suc, suc-add, le-add-right}
+use native.Mathlib.Numerals.{add-one}
+use native.Mathlib.Omega.{arith}
+use borrow.Author.Tests.{le-leb, lt-leb, leb-true}
+use lib.Dec.{leb}
+use lib.ListN.{length, take, drop, set, getD, take-append-drop, length-append, length-set, length-drop, drop-of-length-le}
+use lib.Seq.{sets, length-sets, set-out, take-set-le, drop-set-add, drop-cons, take-all}
+use Rattle.buffer.specs.Pick.{pick}
+use Rattle.buffer.specs.Put.{placed, after, Put}
+
+module _ {A : Type 0} where
+  -- stores past the end change nothing
+  pub sets-out : (vs l : List A) (i : ℕ) → length l ≤ i → sets l i vs ≡ l
+  sets-out [] l i h = refl
+  sets-out (a ∷ vs) l i h =
+      let g : length (set l i a) ≤ suc i = simp length-set (omega arith) in
+      sets-out vs (set l i a) (suc i) g ∙ set-out l i a h
+
+  -- stores into the part from `at` are stores into the whole, `at` further on
+  pub sets-part : (vs l : List A) (at i : ℕ) → take at l ++ sets (drop at l) i vs ≡ sets l (at + i) vs
+  sets-part [] l at i = take-append-drop at l
+  sets-part (a ∷ vs) l at i =
+      rw (← take-set-le at l (at + i) a (le-add-right at i), ← drop-set-add at l i a)
+      (sets-part vs (set l (at + i) a) at (suc i) ∙ ap (λ (k : ℕ). sets (set l (at + i) a) k vs) (add-suc at i))
+
+  pub sets-append : (a l b : List A) (i : ℕ) → sets l i (a ++ b) ≡ sets (sets l i a) (i + length a) b
+  sets-append [] l b i = rw add-zero
+  sets-append (x ∷ a) l b i = rw add-suc (sets-append a (set l i x) b (suc i) ∙ rw suc-add)
+
+  -- stores into the part from `at` to the end, put back in its place
+  pub sets-tail : (vs l ys : List A) (at : ℕ) → at ≤ length l
+      → ys ≡ sets (take (length l - at) (drop at l)) 0 vs → take at l ++ (ys ++ drop (length l - at) (drop at l)) ≡ sets l at vs
+  sets-tail vs l ys at h e =
+      let all : take (length l - at) (drop at l) ≡ drop at l = take-all (length l - at) (drop at l) (simp length-drop (omega arith)) in
+      let none : drop (length l - at) (drop at l) ≡ [] = drop-of-length-le (drop at l) {i = length l - at} (simp length-drop (omega arith)) in
+      rw (none, e, all, append-nil) (sets-part vs l at 0 ∙ rw add-zero)
+
+  -- one more of the source is stored
+  pub sets-next : (l s : List A) (i : ℕ) (d : A) → i < length s → sets l i (drop i s) ≡ sets (set l i (getD s i d)) (i + 1) (drop (i + 1) s)
+  sets-next l s i d h = rw (add-one, drop-cons s i d)
+
+-- appending whole, and not at all
+pub put-fits : (out : List ℕ) (at : ℕ) (bs : List ℕ) → at + length bs ≤ length out → Put out at bs (sets out at bs) (at + length bs)
+unfolding placed after
+put-fits out at bs h =
+    let e = le-leb (at + length bs) (length out) h in
+    record { bytes = rw e; position = rw e }
+
+pub put-full : (out : List ℕ) (at : ℕ) (bs : List ℕ) → length out < at + length bs → Put out at bs out (length out + 1)
+unfolding placed after
+put-full out at bs h =
+    let e = lt-leb (at + length bs) (length out) h in
+    record { bytes = rw e; position = rw e }
+
+-- what is placed has the length of what was there
+pub length-placed : (out : List ℕ) (at : ℕ) (bs : List ℕ) → length (placed out at bs) ≡ length out
+unfolding placed
+length-placed out at bs = go (leb (at + length bs) (length out))
+  where
+    go : (t : mathlib.Core.Bool.Bool) → length (pick t (sets out at bs) out) ≡ length out
+    go true = length-sets out at bs
+    go false = refl
+
+-- what fits whole may be appended in pieces
+pub put-join : (out : List ℕ) (at : ℕ) (a mid : List ℕ) (m : ℕ) (b left : List ℕ) (n : ℕ) → at + length (a ++ b) ≤ length out
+    → Put out at a mid m → Put mid m b left n → Put out at (a ++ b) left n
+unfolding placed after
+put-join out at a mid m b left n h p q =
+    let k : length (a ++ b) ≡ length a + length b = length-append a b in
+    let e = le-leb (at + length a) (length out) (omega arith) in
+    let em : mid ≡ sets out at a = rw e at (p .bytes) in
+    let en : m ≡ at + length a = rw e at (p .position) in
+    let el : length mid ≡ length out = ap length em ∙ length-sets out at a in
+    let f = le-leb (m + length b) (length mid) (omega arith) in
+    let g = le-leb (at + length (a ++ b)) (length out) h in
+    let fl : left ≡ sets mid m b = rw f at (q .bytes) in
+    let fn : n ≡ m + length b = rw f at (q .position) in
+    record {
+      bytes = rw g (fl ∙ rw (em, en, sets-append a out b at));
+      position = rw g (omega arith)
+    }

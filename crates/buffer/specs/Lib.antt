@@ -1,0 +1,4 @@
+pub mod Pick
+pub mod Put
+pub mod Stretch
+pub mod Walk

@@ -1,0 +1,57 @@
+// Bytes in lent buffers: appending at a position, copying, and where a stretch of bytes ends.
+//
+// An output position may run past the end: what does not fit whole is not written, and the position
+// then is the length plus one and stays there. One test at the end tells whether everything was written.
+ghost use mathlib.Core.Path.{_≡_};
+ghost use lib.ListN.{length};
+ghost use lib.Seq.{sets};
+ghost use Rattle.buffer.specs.Put.{Put};
+ghost use Rattle.buffer.specs.Stretch.{stretch};
+
+// Where a stretch of bytes ends.
+pub enum Stretch {
+    To(usize),
+    Outside,
+}
+
+// The end of the `len` bytes from `start`, if they all lie in `s`.
+pub fn end_of(s: &[u8], start: usize, len: u64) -> Stretch
+    ensures { λ r. ⌜ r ≡ stretch (length (now (s .entry))) start len ⌝ }
+{
+    if s.len() < start {
+        return Stretch::Outside;
+    }
+    let room = s.len() - start;
+    if (room as u64) < len {
+        return Stretch::Outside;
+    }
+    Stretch::To(start + len as usize)
+}
+
+// Copies `src` to the front of `dst`, as far as it has room.
+pub fn copy(dst: &mut [u8], src: &[u8])
+    ensures { λ _. ⌜ now (dst .exit) ≡ sets (now (dst .entry)) 0 (now (src .entry)) ⌝ }
+{
+    let mut i = 0;
+    while i < src.len() {
+        if dst.len() <= i {
+            return;
+        }
+        dst[i] = src[i];
+        i += 1;
+    }
+}
+
+// Appends `bytes` at `at`, and answers the next position.
+pub fn put(out: &mut [u8], at: usize, bytes: &[u8]) -> usize
+    ensures { λ r. ⌜ Put (now (out .entry)) at (now (bytes .entry)) (now (out .exit)) r ⌝ }
+{
+    if out.len() < at {
+        return out.len() + 1;
+    }
+    if out.len() - at < bytes.len() {
+        return out.len() + 1;
+    }
+    copy(&mut out[at..], bytes);
+    at + bytes.len()
+}

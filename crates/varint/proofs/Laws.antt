@@ -1,0 +1,99 @@
+-- Laws of the spellings, one step each.
+use Prim.Native.Nat.{ℕ, zero, suc, _+_, _*_, _-_, _/_, _%_, _^_, _≤_, _<_}
+use mathlib.Core.Path.{_≡_, refl, sym, ap, _∙_}
+use mathlib.Core.List.{List, [], _∷_, _++_}
+use native.Mathlib.Nat.{mul-comm, mul-suc, mul-add, mul-assoc, mul-le-mul-left, add-assoc, zero-add, mul-one, add-zero, mul-zero}
+use native.Mathlib.Numerals.{add-one, sub-one}
+use native.Mathlib.Omega.{arith}
+use borrow.Author.Tests.{lt-ltb, le-ltb, ltb-true, ltb-false}
+use lib.Dec.{ltb}
+use lib.ListN.{length, getD, drop, drop-of-length-le}
+use lib.Seq.{drop-cons}
+use Rattle.buffer.specs.Pick.{pick}
+use Rattle.varint.specs.Varint.{more, spelt, varintAt, spelling, varint}
+use Rattle.varint.specs.declared.Varint.{Varint}
+use Rattle.varint.specs.declared.Varint.the-variants.{Number, Unreadable}
+
+-- one more than the largest number that has a spelling with k bytes after the first
+abbrev pub room : ℕ → ℕ
+room zero = 2
+room (suc k) = 128 * room k
+
+pub room-two : (k : ℕ) → 2 ≤ room k
+room-two zero = omega arith
+room-two (suc k) = let h = room-two k in omega arith
+
+-- the shortest spelling, a byte at a time
+pub spelling-end : (k v : ℕ) → v < 128 → spelling k v ≡ v ∷ []
+unfolding spelling
+spelling-end zero v h = refl
+spelling-end (suc k) v h = rw (lt-ltb v 128 h)
+
+pub spelling-more : (k v : ℕ) → 128 ≤ v → v < room k
+    → (j : ℕ) × (k ≡ j + 1) × (v / 128 < room j) × (spelling k v ≡ (v % 128 + 128) ∷ spelling j (v / 128))
+unfolding spelling
+spelling-more zero v h g = absurd (omega arith)
+spelling-more (suc j) v h g = (j, omega arith, omega arith, rw (le-ltb v 128 h))
+
+-- what the bytes read so far, worth `value` below `scale`, make of the rest
+abbrev pub finish : ℕ → ℕ → Varint → Varint
+finish value scale (Number x next) = Number (value + x * scale) next
+finish value scale Unreadable = Unreadable
+
+pub finish-start : (r : Varint) → r ≡ finish 0 1 r
+finish-start (Number x next) = ap (λ (k : ℕ). Number k next) (omega arith)
+finish-start Unreadable = refl
+
+pub finish-more : (value scale b : ℕ) (r : Varint) → finish value scale (more b r) ≡ finish (value + b % 128 * scale) (scale * 128) r
+unfolding more
+finish-more value scale b (Number x next) = ap (λ (k : ℕ). Number k next) (go (b % 128))
+  where
+    go : (d : ℕ) → value + (d + 128 * x) * scale ≡ value + d * scale + x * (scale * 128)
+    go d = rw (mul-comm (d + 128 * x) scale, mul-add scale d (128 * x), mul-comm scale d, mul-comm 128 x, mul-comm scale (x * 128), mul-assoc x 128 scale, mul-comm 128 scale) (omega arith)
+finish-more value scale b Unreadable = refl
+
+-- a digit below the room that is left fits
+pub digit-fits : (value scale b r n : ℕ) → value < scale → b < r → scale * r ≡ n → value + b * scale < n
+digit-fits value scale b r n h k e =
+    let m = mul-le-mul-left {m = suc b} {n = r} scale k in
+    omega (arith, mul-suc scale b, mul-comm b scale)
+
+pub scale-fits : (scale k n : ℕ) → scale * room (suc k) ≡ n → scale * 128 * room k ≡ n
+scale-fits scale k n e = mul-assoc scale 128 (room k) ∙ e
+
+-- the bytes from i on: the one there, and those after it
+pub from : (s : List ℕ) (i b : ℕ) → i < length s → b ≡ getD s i 0 → drop i s ≡ b ∷ drop (i + 1) s
+from s i b h e = rw (add-one, e, drop-cons s i 0)
+
+-- reading, a byte b at i at a time, with `left` bytes allowed after it
+module _ (s : List ℕ) (i b : ℕ) (h : i < length s) (e : b ≡ getD s i 0) where
+  pub read-last : (left : ℕ) → left ≡ 0 → b < 2 → spelt left (drop i s) i ≡ Number b (i + 1)
+  unfolding spelt
+  read-last left z k = rw (z, from s i b h e, lt-ltb b 2 k)
+
+  pub read-over : (left : ℕ) → left ≡ 0 → 2 ≤ b → spelt left (drop i s) i ≡ Unreadable
+  unfolding spelt
+  read-over left z k = rw (z, from s i b h e, le-ltb b 2 k)
+
+  pub read-digit : (left : ℕ) → (left ≡ 0 → ⊥) → b < 128 → spelt left (drop i s) i ≡ Number b (i + 1)
+  unfolding spelt
+  read-digit zero z k = absurd (z refl)
+  read-digit (suc left) z k = rw (from s i b h e, lt-ltb b 128 k)
+
+  pub read-more : (left : ℕ) → (left ≡ 0 → ⊥) → 128 ≤ b → spelt left (drop i s) i ≡ more b (spelt (left - 1) (drop (i + 1) s) (i + 1))
+  unfolding spelt
+  read-more zero z k = absurd (z refl)
+  read-more (suc left) z k = rw (from s i b h e, le-ltb b 128 k, sub-one (suc left))
+
+pub read-none : (s : List ℕ) (i left : ℕ) → length s ≤ i → spelt left (drop i s) i ≡ Unreadable
+unfolding spelt
+read-none s i left h = rw (drop-of-length-le s {i = i} h)
+
+-- the room of one byte less
+pub scale-next : (scale left n : ℕ) → (left ≡ 0 → ⊥) → scale * room left ≡ n → scale * 128 * room (left - 1) ≡ n
+scale-next scale zero n z e = absurd (z refl)
+scale-next scale (suc k) n z e = rw (sub-one (suc k)) (scale-fits scale k n e)
+
+pub room-more : (left : ℕ) → (left ≡ 0 → ⊥) → 256 ≤ room left
+room-more zero z = absurd (z refl)
+room-more (suc k) z = let h = room-two k in omega arith
