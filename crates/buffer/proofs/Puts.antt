@@ -2,15 +2,15 @@
 use Prim.Native.Nat.{ℕ, zero, suc, _+_, _-_, _≤_, _<_}
 use mathlib.Core.Path.{_≡_, refl, ap, sym, _∙_}
 use mathlib.Core.List.{List, [], _∷_, _++_, append-nil}
-use mathlib.Core.Bool.{true, false}
+use mathlib.Core.Bool.{Bool, true, false}
 use native.Mathlib.Nat.{add-zero, add-suc, suc-add, le-add-right}
 use native.Mathlib.Numerals.{add-one}
 use native.Mathlib.Omega.{arith}
-use borrow.Author.Tests.{le-leb, lt-leb, leb-true}
-use lib.Dec.{leb}
 use lib.ListN.{length, take, drop, set, getD, take-append-drop, length-append, length-set, length-drop, drop-of-length-le}
 use lib.Seq.{sets, length-sets, set-out, take-set-le, drop-set-add, drop-cons, take-all}
 use Rattle.buffer.specs.Pick.{pick}
+use Rattle.buffer.specs.Stretch.{fits}
+use Rattle.buffer.proofs.Stretches.{fits-true, room}
 use Rattle.buffer.specs.Put.{placed, after, Put}
 
 module _ {A : Type 0} where
@@ -45,39 +45,35 @@ module _ {A : Type 0} where
   sets-next l s i d h = rw (add-one, drop-cons s i d)
 
 -- appending whole, and not at all
-pub put-fits : (out : List ℕ) (at : ℕ) (bs : List ℕ) → at + length bs ≤ length out → Put out at bs (sets out at bs) (at + length bs)
+pub put-fits : (out : List ℕ) (at : ℕ) (bs : List ℕ) → fits (length out) at (length bs) ≡ true → Put out at bs (sets out at bs) (at + length bs)
 unfolding placed after
-put-fits out at bs h =
-    let e = le-leb (at + length bs) (length out) h in
-    record { bytes = rw e; position = rw e }
+put-fits out at bs h = record { bytes = rw h; position = rw h }
 
-pub put-full : (out : List ℕ) (at : ℕ) (bs : List ℕ) → length out < at + length bs → Put out at bs out (length out + 1)
+pub put-full : (out : List ℕ) (at : ℕ) (bs : List ℕ) → fits (length out) at (length bs) ≡ false → Put out at bs out (length out + 1)
 unfolding placed after
-put-full out at bs h =
-    let e = lt-leb (at + length bs) (length out) h in
-    record { bytes = rw e; position = rw e }
+put-full out at bs h = record { bytes = rw h; position = rw h }
 
 -- what is placed has the length of what was there
 pub length-placed : (out : List ℕ) (at : ℕ) (bs : List ℕ) → length (placed out at bs) ≡ length out
 unfolding placed
-length-placed out at bs = go (leb (at + length bs) (length out))
+length-placed out at bs = go (fits (length out) at (length bs))
   where
-    go : (t : mathlib.Core.Bool.Bool) → length (pick t (sets out at bs) out) ≡ length out
+    go : (t : Bool) → length (pick t (sets out at bs) out) ≡ length out
     go true = length-sets out at bs
     go false = refl
 
 -- what fits whole may be appended in pieces
-pub put-join : (out : List ℕ) (at : ℕ) (a mid : List ℕ) (m : ℕ) (b left : List ℕ) (n : ℕ) → at + length (a ++ b) ≤ length out
-    → Put out at a mid m → Put mid m b left n → Put out at (a ++ b) left n
+pub put-join : (out : List ℕ) (at : ℕ) (a : List ℕ) {mid : List ℕ} {m : ℕ} (b : List ℕ) {left : List ℕ} {n : ℕ}
+    → fits (length out) at (length (a ++ b)) ≡ true → Put out at a mid m → Put mid m b left n → Put out at (a ++ b) left n
 unfolding placed after
-put-join out at a mid m b left n h p q =
+put-join out at a {mid} {m} b {left} {n} g p q =
     let k : length (a ++ b) ≡ length a + length b = length-append a b in
-    let e = le-leb (at + length a) (length out) (omega arith) in
+    let h = room (length out) at (length (a ++ b)) refl g in
+    let e = fits-true (length out) at (length a) (omega arith) in
     let em : mid ≡ sets out at a = rw e at (p .bytes) in
     let en : m ≡ at + length a = rw e at (p .position) in
     let el : length mid ≡ length out = ap length em ∙ length-sets out at a in
-    let f = le-leb (m + length b) (length mid) (omega arith) in
-    let g = le-leb (at + length (a ++ b)) (length out) h in
+    let f = fits-true (length mid) m (length b) (omega arith) in
     let fl : left ≡ sets mid m b = rw f at (q .bytes) in
     let fn : n ≡ m + length b = rw f at (q .position) in
     record {

@@ -1,18 +1,47 @@
 -- Laws of a stretch of bytes.
-use Prim.Native.Nat.{ℕ, _+_, _≤_, _<_}
-use mathlib.Core.Path.{_≡_, refl}
+use Prim.Native.Nat.{ℕ, _+_, _-_, _≤_, _<_}
+use mathlib.Core.Path.{_≡_, refl, sym, ap, _∙_}
 use mathlib.Core.Bool.{Bool, true, false}
-use borrow.Author.Tests.{le-leb, lt-leb}
+use native.Mathlib.Omega.{arith}
+use borrow.Author.Tests.{le-leb, lt-leb, leb-true, leb-false}
 use lib.Dec.{leb}
 use Rattle.buffer.specs.Pick.{pick}
-use Rattle.buffer.specs.Stretch.{stretch}
-use Rattle.buffer.specs.declared.Stretch.{Stretch}
+use Rattle.buffer.specs.Stretch.{fits, stretch}
 use Rattle.buffer.specs.declared.Stretch.the-variants.{To, Outside}
 
-pub stretch-to : (n start len : ℕ) → start + len ≤ n → stretch n start len ≡ To (start + len)
-unfolding stretch
-stretch-to n start len h = rw (le-leb (start + len) n h)
+pub fits-true : (len at n : ℕ) → at + n ≤ len → fits len at n ≡ true
+unfolding fits
+fits-true len at n h = le-leb (at + n) len h
 
-pub stretch-outside : (n start len : ℕ) → n < start + len → stretch n start len ≡ Outside
+pub fits-false : (len at n : ℕ) → len < at + n → fits len at n ≡ false
+unfolding fits
+fits-false len at n h = lt-leb (at + n) len h
+
+-- what a true and a false answer say
+pub room : {t : Bool} (len at n : ℕ) → t ≡ fits len at n → t ≡ true → at + n ≤ len
+unfolding fits
+room len at n e h = leb-true (at + n) len (sym e ∙ h)
+
+pub no-room : {t : Bool} (len at n : ℕ) → t ≡ fits len at n → t ≡ false → len < at + n
+unfolding fits
+no-room len at n e h = leb-false (at + n) len (sym e ∙ h)
+
+-- the test by a difference
+pub fits-moved : (len at n : ℕ) → at ≤ len → leb n (len - at) ≡ fits len at n
+fits-moved len at n h = go (leb n (len - at)) refl
+  where
+    go : (t : Bool) → leb n (len - at) ≡ t → t ≡ fits len at n
+    go true e = sym (fits-true len at n (let k = leb-true n (len - at) e in omega arith))
+    go false e = sym (fits-false len at n (let k = leb-false n (len - at) e in omega arith))
+
+pub stretch-to : (len at n : ℕ) → fits len at n ≡ true → stretch len at n ≡ To (at + n)
 unfolding stretch
-stretch-outside n start len h = rw (lt-leb (start + len) n h)
+stretch-to len at n h = rw h
+
+pub stretch-outside : (len at n : ℕ) → fits len at n ≡ false → stretch len at n ≡ Outside
+unfolding stretch
+stretch-outside len at n h = rw h
+
+-- an answer of `has_room` for n bytes, said of m that are as many
+pub tested : (len at n m : ℕ) {t u : Bool} → n ≡ m → t ≡ fits len at n → t ≡ u → fits len at m ≡ u
+tested len at n m e h k = ap (fits len at) (sym e) ∙ sym h ∙ k

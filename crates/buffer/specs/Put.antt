@@ -3,17 +3,17 @@ use Prim.Native.Nat.{ℕ, _+_}
 use mathlib.Core.Path.{_≡_}
 use mathlib.Core.List.{List}
 use lib.ListN.{length}
-use lib.Dec.{leb}
 use lib.Seq.{sets}
 use Rattle.buffer.specs.Pick.{pick}
+use Rattle.buffer.specs.Stretch.{fits}
 
 -- the output with the bytes `bs` at `at`
 unfoldable pub placed : List ℕ → ℕ → List ℕ → List ℕ
-placed out at bs = pick (leb (at + length bs) (length out)) (sets out at bs) out
+placed out at bs = pick (fits (length out) at (length bs)) (sets out at bs) out
 
 -- the position after `n` bytes at `at`, in an output of `room` bytes: one past its end where they do not fit
 unfoldable pub after : ℕ → ℕ → ℕ → ℕ
-after room at n = pick (leb (at + n) room) (at + n) (room + 1)
+after room at n = pick (fits room at n) (at + n) (room + 1)
 
 -- what a call that appends `bs` leaves and answers
 pub record Put (out : List ℕ) (at : ℕ) (bs : List ℕ) (left : List ℕ) (next : ℕ) : Type 0 where

@@ -6,7 +6,7 @@ ghost use mathlib.Core.Path.{_≡_};
 ghost use lib.ListN.{length};
 ghost use lib.Seq.{sets};
 ghost use Rattle.buffer.specs.Put.{Put};
-ghost use Rattle.buffer.specs.Stretch.{stretch};
+ghost use Rattle.buffer.specs.Stretch.{fits, stretch};
 
 // Where a stretch of bytes ends.
 pub enum Stretch {
@@ -14,18 +14,25 @@ pub enum Stretch {
     Outside,
 }
 
+// Whether `n` bytes at `at` lie within the first `len`.
+pub fn has_room(len: usize, at: usize, n: usize) -> bool
+    ensures { λ r. ⌜ r ≡ fits len at n ⌝ }
+{
+    if len < at {
+        return false;
+    }
+    n <= len - at
+}
+
 // The end of the `len` bytes from `start`, if they all lie in `s`.
 pub fn end_of(s: &[u8], start: usize, len: u64) -> Stretch
     ensures { λ r. ⌜ r ≡ stretch (length (now (s .entry))) start len ⌝ }
 {
-    if s.len() < start {
-        return Stretch::Outside;
+    let n = len as usize;
+    if has_room(s.len(), start, n) {
+        return Stretch::To(start + n);
     }
-    let room = s.len() - start;
-    if (room as u64) < len {
-        return Stretch::Outside;
-    }
-    Stretch::To(start + len as usize)
+    Stretch::Outside
 }
 
 // Copies `src` to the front of `dst`, as far as it has room.
@@ -46,12 +53,9 @@ pub fn copy(dst: &mut [u8], src: &[u8])
 pub fn put(out: &mut [u8], at: usize, bytes: &[u8]) -> usize
     ensures { λ r. ⌜ Put (now (out .entry)) at (now (bytes .entry)) (now (out .exit)) r ⌝ }
 {
-    if out.len() < at {
-        return out.len() + 1;
+    if has_room(out.len(), at, bytes.len()) {
+        copy(&mut out[at..], bytes);
+        return at + bytes.len();
     }
-    if out.len() - at < bytes.len() {
-        return out.len() + 1;
-    }
-    copy(&mut out[at..], bytes);
-    at + bytes.len()
+    out.len() + 1
 }

@@ -13,9 +13,9 @@ use Rattle.varint.specs.Varint.{more, spelt, varintAt, spelling, varint}
 use Rattle.varint.specs.Statements.{RoundTrip, SamplesRead}
 use Rattle.varint.specs.declared.Varint.{Varint}
 use Rattle.varint.specs.declared.Varint.the-variants.{Number, Unreadable}
-use Rattle.varint.proofs.Laws.{room, room-two}
+use Rattle.varint.proofs.Laws.{bound, bound-two}
 
-back-at : (k v : ℕ) (rest : List ℕ) (at : ℕ) → v < room k → spelt k (spelling k v ++ rest) at ≡ Number v (at + length (spelling k v))
+back-at : (k v : ℕ) (rest : List ℕ) (at : ℕ) → v < bound k → spelt k (spelling k v ++ rest) at ≡ Number v (at + length (spelling k v))
 unfolding spelt spelling more
 back-at zero v rest at h = rw (lt-ltb v 2 h)
 back-at (suc k) v rest at h = go (ltb v 128) refl (back-at k (v / 128) rest (at + 1) (omega arith))
@@ -48,8 +48,8 @@ within-last b at n v next true p q =
     record { starts = omega arith; ends = omega arith; small = omega arith }
 within-last b at n v next false p q = let z : _≡_ {A = ℕ} 0 1 = cc in absurd (omega arith)
 
-within-more : (k b at n v next : ℕ) (r : Varint) → ((x m : ℕ) → r ≡ Number x m → Within (room k) (at + 1) n x m)
-    → more b r ≡ Number v next → Within (room (suc k)) at (suc n) v next
+within-more : (k b at n v next : ℕ) (r : Varint) → ((x m : ℕ) → r ≡ Number x m → Within (bound k) (at + 1) n x m)
+    → more b r ≡ Number v next → Within (bound (suc k)) at (suc n) v next
 unfolding more
 within-more k b at n v next (Number x m) ih q =
     let e : b % 128 + 128 * x ≡ v = cc in
@@ -58,17 +58,17 @@ within-more k b at n v next (Number x m) ih q =
     record { starts = omega arith; ends = omega arith; small = omega arith }
 within-more k b at n v next Unreadable ih q = let z : _≡_ {A = ℕ} 0 1 = cc in absurd (omega arith)
 
-within-digit : (k b at n v next : ℕ) (r : Varint) (t : Bool) → ((x m : ℕ) → r ≡ Number x m → Within (room k) (at + 1) n x m)
-    → ltb b 128 ≡ t → pick t (Number b (at + 1)) (more b r) ≡ Number v next → Within (room (suc k)) at (suc n) v next
+within-digit : (k b at n v next : ℕ) (r : Varint) (t : Bool) → ((x m : ℕ) → r ≡ Number x m → Within (bound k) (at + 1) n x m)
+    → ltb b 128 ≡ t → pick t (Number b (at + 1)) (more b r) ≡ Number v next → Within (bound (suc k)) at (suc n) v next
 within-digit k b at n v next r true ih p q =
     let e : b ≡ v = cc in
     let f : at + 1 ≡ next = cc in
     let h = ltb-true b 128 p in
-    let g = room-two k in
+    let g = bound-two k in
     record { starts = omega arith; ends = omega arith; small = omega arith }
 within-digit k b at n v next r false ih p q = within-more k b at n v next r ih q
 
-within-at : (k : ℕ) (s : List ℕ) (at v next : ℕ) → spelt k s at ≡ Number v next → Within (room k) at (length s) v next
+within-at : (k : ℕ) (s : List ℕ) (at v next : ℕ) → spelt k s at ≡ Number v next → Within (bound k) at (length s) v next
 unfolding spelt
 within-at k [] at v next e = let z : _≡_ {A = ℕ} 0 1 = cc in absurd (omega arith)
 within-at zero (b ∷ s) at v next e = within-last b at (length s) v next (ltb b 2) refl e

@@ -1,12 +1,21 @@
 // Varints: numbers in bytes of seven bits, the lowest first.
 ghost use mathlib.Core.Path.{_≡_};
 ghost use lib.ListN.{length};
+ghost use mathlib.Core.Bool.{true};
 ghost use Rattle.buffer.specs.Put.{Put};
-ghost use Rattle.varint.specs.Varint.{varintAt, varint};
+ghost use Rattle.buffer.specs.Stretch.{fits};
+ghost use Rattle.varint.specs.Varint.{varintAt, varint, two, delimitedAt, delimited};
+use buffer::Stretch;
 
 // What stands at a position: a number and where the next byte is, or nothing readable.
 pub enum Varint {
     Number(u64, usize),
+    Unreadable,
+}
+
+// Where length-delimited bytes stand: their start and their end.
+pub enum Delimited {
+    At(usize, usize),
     Unreadable,
 }
 
@@ -44,6 +53,19 @@ pub fn read(s: &[u8], at: usize) -> Varint
     Varint::Unreadable
 }
 
+// The bytes behind a length that stands at `at`.
+pub fn read_delimited(s: &[u8], at: usize) -> Delimited
+    ensures { λ r. ⌜ r ≡ delimitedAt (now (s .entry)) at ⌝ }
+{
+    let Varint::Number(len, start) = read(s, at) else {
+        return Delimited::Unreadable;
+    };
+    let Stretch::To(end) = buffer::end_of(s, start, len) else {
+        return Delimited::Unreadable;
+    };
+    Delimited::At(start, end)
+}
+
 // How many bytes the shortest spelling of `v` has.
 pub fn len(v: u64) -> usize
     ensures { λ r. ⌜ r ≡ length (varint v) ⌝ }
@@ -61,12 +83,17 @@ pub fn len(v: u64) -> usize
 pub fn put(out: &mut [u8], at: usize, v: u64) -> usize
     ensures { λ r. ⌜ Put (now (out .entry)) at (varint v) (now (out .exit)) r ⌝ }
 {
-    if out.len() < at {
-        return out.len() + 1;
+    if buffer::has_room(out.len(), at, len(v)) {
+        return write(out, at, v);
     }
-    if out.len() - at < len(v) {
-        return out.len() + 1;
-    }
+    out.len() + 1
+}
+
+// The spelling's bytes, where they fit.
+fn write(out: &mut [u8], at: usize, v: u64) -> usize
+    requires { ⌜ fits (length (now out)) at (length (varint v)) ≡ true ⌝ }
+    ensures { λ r. ⌜ Put (now (out .entry)) at (varint v) (now (out .exit)) r ⌝ }
+{
     let mut rest = v;
     let mut i = at;
     while 128 <= rest {
@@ -76,4 +103,28 @@ pub fn put(out: &mut [u8], at: usize, v: u64) -> usize
     }
     out[i] = rest as u8;
     i + 1
+}
+
+// Appends two numbers.
+pub fn put_two(out: &mut [u8], at: usize, a: u64, b: u64) -> usize
+    ensures { λ r. ⌜ Put (now (out .entry)) at (two a b) (now (out .exit)) r ⌝ }
+{
+    let n = len(a) + len(b);
+    if buffer::has_room(out.len(), at, n) {
+        let mid = put(out, at, a);
+        return put(out, mid, b);
+    }
+    out.len() + 1
+}
+
+// Appends a key, the length of the bytes and the bytes.
+pub fn put_delimited(out: &mut [u8], at: usize, key: u64, bytes: &[u8]) -> usize
+    ensures { λ r. ⌜ Put (now (out .entry)) at (delimited key (now (bytes .entry))) (now (out .exit)) r ⌝ }
+{
+    let n = len(key) + len(bytes.len() as u64) + bytes.len();
+    if buffer::has_room(out.len(), at, n) {
+        let mid = put_two(out, at, key, bytes.len() as u64);
+        return buffer::put(out, mid, bytes);
+    }
+    out.len() + 1
 }

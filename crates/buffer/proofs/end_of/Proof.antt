@@ -1,32 +1,29 @@
--- `buffer::end_of` meets its contract: the tests say on which side of the end the stretch's end lies.
-use mathlib.Core.Path.{sym}
+-- `buffer::end_of` meets its contract: the test says on which side of the end the stretch's end lies.
+use mathlib.Core.Path.{sym, _∙_}
 use native.Mathlib.Omega.{arith}
-use Rattle.buffer.proofs.Stretches.{stretch-to, stretch-outside}
+use Rattle.buffer.proofs.Stretches.{stretch-to, stretch-outside, room}
 use borrow.Author.Needs.{needs}
 use Rattle.buffer.proofs.end_of.Statement.{statement}
 use Rattle.buffer.proofs.end_of.Tie as tie
 use Rattle.buffer.proofs.end_of.Reads as reads
 use Rattle.buffer.proofs.end_of.Lts as lts
+use Rattle.buffer.proofs.has_room.Reads as has-room-reads
 
--- src/lib.rt:22:9
+-- src/lib.rt:34:8
+has-room-requires : tie.Need-has-room-requires
+has-room-requires c κs = search needs
+
+-- src/lib.rt:35:28
+add-t7 : tie.Need-add-t7
+add-t7 c = omega (arith, room _ _ _ (c .before .has-room .ensures) (c .if1 .taken))
+
+-- src/lib.rt:35:9
 returns : tie.Need-returns
-returns c = sym (stretch-outside _ _ _ (omega arith))
+returns c = sym (stretch-to _ _ _ (sym (c .before .has-room .ensures) ∙ c .if1 .taken))
 
--- src/lib.rt:24:16
-sub-room : tie.Need-sub-room
-sub-room c = search needs
-
--- src/lib.rt:26:9
+-- src/lib.rt:30:1
 returns-2 : tie.Need-returns-2
-returns-2 c = sym (stretch-outside _ _ _ (omega arith))
-
--- src/lib.rt:28:17
-add-t8 : tie.Need-add-t8
-add-t8 c = search needs
-
--- src/lib.rt:18:1
-returns-3 : tie.Need-returns-3
-returns-3 c = sym (stretch-to _ _ _ (omega arith))
+returns-2 c = sym (stretch-outside _ _ _ (sym (c .before .has-room .ensures) ∙ c .if1 .left))
 
 pub end-of-spec : {M : Type 1} → statement M
-end-of-spec = tie.close (tie.spec returns sub-room returns-2 add-t8 returns-3)
+end-of-spec = tie.close (tie.spec has-room-requires add-t7 returns returns-2)

@@ -5,7 +5,7 @@ use mathlib.Core.List.{[], _∷_}
 use native.Mathlib.Omega.{arith}
 use lib.ListN.{length}
 use Rattle.varint.specs.Varint.{spelling, varint}
-use Rattle.varint.proofs.Laws.{room, spelling-end, spelling-more}
+use Rattle.varint.proofs.Laws.{bound, spelling-end, spelling-more}
 use Rattle.varint.proofs.len.Statement.{statement}
 use Rattle.varint.proofs.len.Tie as tie
 use Rattle.varint.proofs.len.Reads as reads
@@ -13,7 +13,7 @@ use Rattle.varint.proofs.len.Lts as lts
 
 abbrev Inv-loop : tie.InvT-loop
 Inv-loop v rest₀ n₀ rest n =
-    (k : ℕ) × (rest < room k) × (n + length (spelling k rest) ≡ length (varint v) + 1) × (n + k ≡ 10)
+    (k : ℕ) × (rest < bound k) × (n + length (spelling k rest) ≡ length (varint v) + 1) × (n + k ≡ 10)
 
 abbrev μ-loop : tie.MeasureT-loop
 μ-loop v rest₀ n₀ rest n = rest

@@ -5,7 +5,7 @@ use native.Mathlib.Nat.{mul-le-mul-left}
 use native.Mathlib.Omega.{arith}
 use lib.ListN.{length, drop}
 use Rattle.varint.specs.Varint.{spelt, varintAt}
-use Rattle.varint.proofs.Laws.{room, finish, finish-start, finish-more, digit-fits, read-last, read-over, read-digit, read-more, read-none, scale-next, room-more, room-two}
+use Rattle.varint.proofs.Laws.{bound, finish, finish-start, finish-more, digit-fits, read-last, read-over, read-digit, read-more, read-none, scale-next, bound-more, bound-two}
 use Rattle.varint.proofs.read.Statement.{statement}
 use Rattle.varint.proofs.read.Tie as tie
 use Rattle.varint.proofs.read.Reads as reads
@@ -14,7 +14,7 @@ use Rattle.varint.proofs.wide.Reads as wide-reads
 
 abbrev Inv-loop : tie.InvT-loop
 Inv-loop s at value₀ scale₀ left₀ i₀ value scale left i =
-    (varintAt s at ≡ finish value scale (spelt left (drop i s) i)) × (scale * room left ≡ 2 ^ 64) × (value < scale)
+    (varintAt s at ≡ finish value scale (spelt left (drop i s) i)) × (scale * bound left ≡ 2 ^ 64) × (value < scale)
 
 abbrev μ-loop : tie.MeasureT-loop
 μ-loop s at value₀ scale₀ left₀ i₀ value scale left i = length s - i
@@ -38,14 +38,14 @@ mul-t13 : tie.Need-mul-t13 Inv-loop μ-loop
 mul-t13 c =
     let l = c .before .before .before .before .before .loop in
     let b = c .before .before .wide .result in
-    omega (arith, digit-fits (l .value) (l .scale) b (room (l .left)) (2 ^ 64) (l .inv .2) (let r = room-two (l .left) in omega arith) (l .inv .1))
+    omega (arith, digit-fits (l .value) (l .scale) b (bound (l .left)) (2 ^ 64) (l .inv .2) (let r = bound-two (l .left) in omega arith) (l .inv .1))
 
 -- src/lib.rt:32:39
 add-t14 : tie.Need-add-t14 Inv-loop μ-loop
 add-t14 c =
     let l = c .before .before .before .before .before .loop in
     let b = c .before .before .wide .result in
-    omega (arith, digit-fits (l .value) (l .scale) b (room (l .left)) (2 ^ 64) (l .inv .2) (let r = room-two (l .left) in omega arith) (l .inv .1))
+    omega (arith, digit-fits (l .value) (l .scale) b (bound (l .left)) (2 ^ 64) (l .inv .2) (let r = bound-two (l .left) in omega arith) (l .inv .1))
 
 -- src/lib.rt:32:58
 add-t15 : tie.Need-add-t15 Inv-loop μ-loop
@@ -72,14 +72,14 @@ mul-t16 : tie.Need-mul-t16 Inv-loop μ-loop
 mul-t16 c =
     let l = c .before .before .before .before .before .loop in
     let b = c .before .before .wide .result in
-    omega (arith, digit-fits (l .value) (l .scale) b (room (l .left)) (2 ^ 64) (l .inv .2) (let r = room-more (l .left) (c .before .if1 .left) in omega arith) (l .inv .1))
+    omega (arith, digit-fits (l .value) (l .scale) b (bound (l .left)) (2 ^ 64) (l .inv .2) (let r = bound-more (l .left) (c .before .if1 .left) in omega arith) (l .inv .1))
 
 -- src/lib.rt:37:35
 add-t17 : tie.Need-add-t17 Inv-loop μ-loop
 add-t17 c =
     let l = c .before .before .before .before .before .loop in
     let b = c .before .before .wide .result in
-    omega (arith, digit-fits (l .value) (l .scale) b (room (l .left)) (2 ^ 64) (l .inv .2) (let r = room-more (l .left) (c .before .if1 .left) in omega arith) (l .inv .1))
+    omega (arith, digit-fits (l .value) (l .scale) b (bound (l .left)) (2 ^ 64) (l .inv .2) (let r = bound-more (l .left) (c .before .if1 .left) in omega arith) (l .inv .1))
 
 -- src/lib.rt:37:54
 add-t18 : tie.Need-add-t18 Inv-loop μ-loop
@@ -98,20 +98,20 @@ mul-value : tie.Need-mul-value Inv-loop μ-loop
 mul-value c =
     let l = c .before .before .before .before .before .loop in
     let b = c .before .before .wide .result in
-    omega (arith, digit-fits (l .value) (l .scale) (b % 128) (room (l .left)) (2 ^ 64) (l .inv .2) (let r = room-more (l .left) (c .before .if1 .left) in omega arith) (l .inv .1))
+    omega (arith, digit-fits (l .value) (l .scale) (b % 128) (bound (l .left)) (2 ^ 64) (l .inv .2) (let r = bound-more (l .left) (c .before .if1 .left) in omega arith) (l .inv .1))
 
 -- src/lib.rt:39:9
 add-value : tie.Need-add-value Inv-loop μ-loop
 add-value c =
     let l = c .before .before .before .before .before .loop in
     let b = c .before .before .wide .result in
-    omega (arith, digit-fits (l .value) (l .scale) (b % 128) (room (l .left)) (2 ^ 64) (l .inv .2) (let r = room-more (l .left) (c .before .if1 .left) in omega arith) (l .inv .1))
+    omega (arith, digit-fits (l .value) (l .scale) (b % 128) (bound (l .left)) (2 ^ 64) (l .inv .2) (let r = bound-more (l .left) (c .before .if1 .left) in omega arith) (l .inv .1))
 
 -- src/lib.rt:40:9
 mul-scale : tie.Need-mul-scale Inv-loop μ-loop
 mul-scale c =
     let l = c .before .before .before .before .before .loop in
-    omega (arith, mul-le-mul-left {m = 256} {n = room (l .left)} (l .scale) (room-more (l .left) (c .before .if1 .left)), l .inv .1, l .inv .2)
+    omega (arith, mul-le-mul-left {m = 256} {n = bound (l .left)} (l .scale) (bound-more (l .left) (c .before .if1 .left)), l .inv .1, l .inv .2)
 
 -- src/lib.rt:41:9
 sub-left : tie.Need-sub-left Inv-loop μ-loop

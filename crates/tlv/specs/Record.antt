@@ -1,0 +1,95 @@
+-- Records, document 01, "Records and fields": a record is varint type, varint length, value.
+use Prim.Native.Nat.{ℕ, _-_}
+use mathlib.Core.List.{List, [], _∷_, _++_, map}
+use mathlib.Core.Bool.{Bool, true, false}
+use lib.ListN.{length, take, drop}
+use lib.Dec.{eqb}
+use Rattle.buffer.specs.Pick.{pick}
+use Rattle.buffer.specs.Walk.{Step, item, unreadable, Walked, walk}
+use Rattle.buffer.specs.Stretch.{stretch}
+use Rattle.buffer.specs.declared.Stretch.{Stretch}
+use Rattle.buffer.specs.declared.Stretch.the-variants.{To, Outside}
+use Rattle.varint.specs.Varint.{varintAt, varint}
+use Rattle.varint.specs.declared.Varint.{Varint}
+use Rattle.varint.specs.declared.Varint.the-variants.{Number, Unreadable as Unspelt}
+use Rattle.tlv.specs.declared.Record.{Record}
+use Rattle.tlv.specs.declared.Taken.{Taken}
+use Rattle.tlv.specs.declared.Taken.the-variants.{Record as Whole, Unreadable}
+use Rattle.tlv.specs.declared.Total.{Total}
+use Rattle.tlv.specs.declared.Total.the-variants.{Records, Unreadable as Uncounted}
+use Rattle.tlv.specs.declared.Found.{Found}
+use Rattle.tlv.specs.declared.Found.the-variants.{Record as First, Nothing}
+
+-- the record of a type whose value begins at `start`, where its end lies in the payload
+unfoldable pub ofStretch : ℕ → ℕ → Stretch → Taken
+ofStretch kind start (To end) = Whole (record { kind = kind; start = start; end = end })
+ofStretch kind start Outside = Unreadable
+
+-- the same, once its length is read
+unfoldable pub ofLength : List ℕ → ℕ → Varint → Taken
+ofLength s kind (Number len start) = ofStretch kind start (stretch (length s) start len)
+ofLength s kind Unspelt = Unreadable
+
+-- the same, once its type is read
+unfoldable pub ofKind : List ℕ → Varint → Taken
+ofKind s (Number kind mid) = ofLength s kind (varintAt s mid)
+ofKind s Unspelt = Unreadable
+
+-- the record at a position of a payload
+unfoldable pub recordAt : List ℕ → ℕ → Taken
+recordAt s at = ofKind s (varintAt s at)
+
+-- a record's step of the walk: the next one begins where its value ends
+abbrev pub stepped : Taken → Step Record
+stepped (Whole r) = item r (r .end)
+stepped Unreadable = unreadable
+
+unfoldable pub recordStep : List ℕ → ℕ → Step Record
+recordStep s at = stepped (recordAt s at)
+
+-- the records from a position on; one that can't be read ends the reading, and the payload is then not whole
+unfoldable pub recordsFrom : List ℕ → ℕ → Walked Record
+recordsFrom s at = walk recordStep s at
+
+-- how many records a payload has, all of them readable
+abbrev pub countedOf : Walked Record → Total
+countedOf w = pick (w .whole) (Records (length (w .items))) Uncounted
+
+unfoldable pub counted : List ℕ → Total
+counted s = countedOf (recordsFrom s 0)
+
+-- the first of a type
+unfoldable pub firstOf : ℕ → List Record → Found
+firstOf kind [] = Nothing
+firstOf kind (r ∷ rs) = pick (eqb (r .kind) kind) (First r) (firstOf kind rs)
+
+unfoldable pub foundFrom : List ℕ → ℕ → ℕ → Found
+foundFrom s at kind = firstOf kind (recordsFrom s at .items)
+
+-- a record by its value, wherever it stood
+pub record Tlv : Type 0 where
+  pub kind : ℕ
+  pub value : List ℕ
+
+abbrev pub valued : List ℕ → Record → Tlv
+valued s r = record { kind = r .kind; value = take (r .end - r .start) (drop (r .start) s) }
+
+-- the records of a payload by their values
+unfoldable pub records : List ℕ → List Tlv
+records s = map (valued s) (recordsFrom s 0 .items)
+
+-- whether a payload can be read to its end
+unfoldable pub readable : List ℕ → Bool
+readable s = recordsFrom s 0 .whole
+
+-- writing: shortest varints
+unfoldable pub recordHead : ℕ → ℕ → List ℕ
+recordHead kind len = varint kind ++ varint len
+
+unfoldable pub recordBytes : ℕ → List ℕ → List ℕ
+recordBytes kind value = recordHead kind (length value) ++ value
+
+-- the written form of a list of records
+unfoldable pub payload : List Tlv → List ℕ
+payload [] = []
+payload (r ∷ rs) = recordBytes (r .kind) (r .value) ++ payload rs

@@ -1,0 +1,123 @@
+// Records: a varint type, a varint length, a value. A reader walks the payload it was lent and hands
+// over where a value stands; nothing is copied out.
+ghost use mathlib.Core.Path.{_≡_};
+ghost use Prim.Native.Nat.{_+_, _^_, _<_};
+ghost use lib.ListN.{length};
+ghost use Rattle.buffer.specs.Put.{Put};
+ghost use Rattle.tlv.specs.Record.{recordAt, counted, foundFrom, recordHead, recordBytes};
+use buffer::Stretch;
+use varint::Varint;
+
+// A record of a payload: its type, and its value's bytes from `start` up to `end`, where the next record begins.
+pub struct Record {
+    pub kind: u64,
+    pub start: usize,
+    pub end: usize,
+}
+
+// What stands at a cursor.
+pub enum Taken {
+    Record(Record),
+    Unreadable,
+}
+
+// How many records a payload has.
+pub enum Total {
+    Records(usize),
+    Unreadable,
+}
+
+// The first record of a type.
+pub enum Found {
+    Record(Record),
+    Nothing,
+}
+
+// Where a walk over a payload stands.
+pub struct Cursor {
+    pub at: usize,
+}
+
+impl Cursor {
+    // The record that stands here.
+    pub fn take(self, s: &[u8]) -> Taken
+        ensures { λ r. ⌜ r ≡ recordAt (now (s .entry)) (self .at) ⌝ }
+    {
+        let at = self.at;
+        let Varint::Number(kind, mid) = varint::read(s, at) else {
+            return Taken::Unreadable;
+        };
+        let Varint::Number(len, start) = varint::read(s, mid) else {
+            return Taken::Unreadable;
+        };
+        let Stretch::To(end) = buffer::end_of(s, start, len) else {
+            return Taken::Unreadable;
+        };
+        Taken::Record(Record { kind, start, end })
+    }
+
+    // The first record of the type from here on, among those that can be read.
+    pub fn find(self, s: &[u8], kind: u64) -> Found
+        ensures { λ r. ⌜ r ≡ foundFrom (now (s .entry)) (self .at) kind ⌝ }
+    {
+        let mut cursor = self;
+        while cursor.at < s.len() {
+            let Taken::Record(record) = cursor.take(s) else {
+                return Found::Nothing;
+            };
+            if record.kind == kind {
+                return Found::Record(record);
+            }
+            cursor = Cursor { at: record.end };
+        }
+        Found::Nothing
+    }
+}
+
+// The number of records, if every one can be read: one that can't refuses the whole payload.
+pub fn count(s: &[u8]) -> Total
+    ensures { λ r. ⌜ r ≡ counted (now (s .entry)) ⌝ }
+{
+    let mut cursor = Cursor { at: 0 };
+    let mut n = 0;
+    while cursor.at < s.len() {
+        let Taken::Record(record) = cursor.take(s) else {
+            return Total::Unreadable;
+        };
+        cursor = Cursor { at: record.end };
+        n += 1;
+    }
+    Total::Records(n)
+}
+
+// Appends a record's type and the length of its value.
+pub fn put_head(out: &mut [u8], at: usize, kind: u64, len: usize) -> usize
+    ensures { λ r. ⌜ Put (now (out .entry)) at (recordHead kind len) (now (out .exit)) r ⌝ }
+{
+    let n = varint::len(kind) + varint::len(len as u64);
+    if buffer::has_room(out.len(), at, n) {
+        let mid = varint::put(out, at, kind);
+        return varint::put(out, mid, len as u64);
+    }
+    out.len() + 1
+}
+
+// How many bytes a record takes whose value has `len`.
+fn size(kind: u64, len: usize) -> usize
+    requires { ⌜ len < 2 ^ 63 ⌝ }
+    ensures { λ r. ⌜ r ≡ length (recordHead kind len) + len ⌝ }
+{
+    varint::len(kind) + varint::len(len as u64) + len
+}
+
+// Appends a whole record.
+pub fn put(out: &mut [u8], at: usize, kind: u64, value: &[u8]) -> usize
+    ensures { λ r. ⌜ Put (now (out .entry)) at (recordBytes kind (now (value .entry))) (now (out .exit)) r ⌝ }
+{
+    let n = size(kind, value.len());
+    if buffer::has_room(out.len(), at, n) {
+        let mid = put_head(out, at, kind, value.len());
+        return buffer::put(out, mid, value);
+    }
+    out.len() + 1
+}
