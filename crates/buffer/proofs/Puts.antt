@@ -1,13 +1,13 @@
 -- Laws of stores into a list, and of appending.
-use Prim.Native.Nat.{ℕ, zero, suc, _+_, _-_, _≤_, _<_}
-use mathlib.Core.Path.{_≡_, refl, ap, sym, _∙_}
+use Prim.Native.Nat.{ℕ, suc, _+_, _-_, _≤_, _<_}
+use mathlib.Core.Path.{_≡_, refl, ap, _∙_}
 use mathlib.Core.List.{List, [], _∷_, _++_, append-nil}
 use mathlib.Core.Bool.{Bool, true, false}
 use native.Mathlib.Nat.{add-zero, add-suc, suc-add, le-add-right}
 use native.Mathlib.Numerals.{add-one}
 use native.Mathlib.Omega.{arith}
 use lib.ListN.{length, take, drop, set, getD, take-append-drop, length-append, length-set, length-drop, drop-of-length-le}
-use lib.Seq.{sets, length-sets, set-out, take-set-le, drop-set-add, drop-cons, take-all}
+use lib.Seq.{sets, length-sets, set-out, take-set-le, drop-set-add, drop-cons, take-all, sets-eq, take-append-seam}
 use Rattle.buffer.specs.Pick.{pick}
 use Rattle.buffer.specs.Stretch.{fits}
 use Rattle.buffer.proofs.Stretches.{fits-true, room}
@@ -78,5 +78,43 @@ put-join out at a {mid} {m} b {left} {n} g p q =
     let fn : n ≡ m + length b = rw f at (q .position) in
     record {
       bytes = rw g (fl ∙ rw (em, en, sets-append a out b at));
-      position = rw g (omega arith)
+      position = rw g (omega arith);
     }
+
+-- pieces appended one after the other
+abbrev pub all : List (List ℕ) → List ℕ
+all [] = []
+all (p ∷ ps) = p ++ all ps
+
+pub data Chain : List ℕ → ℕ → List (List ℕ) → List ℕ → ℕ → Type 0 where
+  done : {out : List ℕ} {at : ℕ} → Chain out at [] out at
+  next : {out : List ℕ} {at : ℕ} {p mid : List ℕ} {m : ℕ} {ps : List (List ℕ)} {left : List ℕ} {n : ℕ}
+      → Put out at p mid m → Chain mid m ps left n → Chain out at (p ∷ ps) left n
+
+-- where they fit whole, they are appended whole
+pub chain-fits : {out : List ℕ} {at : ℕ} {ps : List (List ℕ)} {left : List ℕ} {n : ℕ} → Chain out at ps left n
+    → at + length (all ps) ≤ length out → (left ≡ sets out at (all ps)) × (n ≡ at + length (all ps))
+unfolding placed after
+chain-fits {out} {at} done h = (refl, omega arith)
+chain-fits {out} {at} {left = left} {n = n} (next {p = p} {mid = mid} {m = m} {ps = ps} w c) h =
+    let k : length (p ++ all ps) ≡ length p + length (all ps) = length-append p (all ps) in
+    let e = fits-true (length out) at (length p) (omega arith) in
+    let em : mid ≡ sets out at p = rw e at (w .bytes) in
+    let en : m ≡ at + length p = rw e at (w .position) in
+    let el : length mid ≡ length out = ap length em ∙ length-sets out at p in
+    let r = chain-fits c (omega arith) in
+    (r .0 ∙ rw (em, en, sets-append p out (all ps) at), omega (arith, r .1))
+
+-- a value put together at the front of a buffer is its first bytes
+pub record Whole (out : List ℕ) (bs : List ℕ) (left : List ℕ) (n : ℕ) : Type 0 where
+  pub size : n ≡ length bs
+  pub bytes : take n left ≡ bs
+  pub room : n ≤ length left
+
+pub chain-whole : {out : List ℕ} {ps : List (List ℕ)} {left : List ℕ} {n : ℕ} → Chain out 0 ps left n → length (all ps) ≤ length out → Whole out (all ps) left n
+chain-whole {out} {ps} {left} {n} c h =
+    let r = chain-fits c (omega arith) in
+    let z : n ≡ length (all ps) = omega (arith, r .1) in
+    let e : left ≡ all ps ++ drop (0 + length (all ps)) out = r .0 ∙ sets-eq (all ps) out 0 (omega arith) in
+    let l : length left ≡ length out = ap length (r .0) ∙ length-sets out 0 (all ps) in
+    record { size = z; bytes = rw (z, e, take-append-seam (all ps) (drop (0 + length (all ps)) out)); room = omega arith }

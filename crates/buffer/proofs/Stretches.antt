@@ -5,7 +5,6 @@ use mathlib.Core.Bool.{Bool, true, false}
 use native.Mathlib.Omega.{arith}
 use borrow.Author.Tests.{le-leb, lt-leb, leb-true, leb-false}
 use lib.Dec.{leb}
-use Rattle.buffer.specs.Pick.{pick}
 use Rattle.buffer.specs.Stretch.{fits, stretch}
 use Rattle.buffer.specs.declared.Stretch.the-variants.{To, Outside}
 
@@ -45,3 +44,14 @@ stretch-outside len at n h = rw h
 -- an answer of `has_room` for n bytes, said of m that are as many
 pub tested : (len at n m : ℕ) {t u : Bool} → n ≡ m → t ≡ fits len at n → t ≡ u → fits len at m ≡ u
 tested len at n m e h k = ap (fits len at) (sym e) ∙ sym h ∙ k
+
+-- a stretch that has an end lies in the slice
+pub stretch-inside : (len at n end : ℕ) → stretch len at n ≡ To end → (at ≤ end) × (end ≤ len)
+stretch-inside len at n end e = go (fits len at n) refl
+  where
+    go : (t : Bool) → fits len at n ≡ t → (at ≤ end) × (end ≤ len)
+    go true f =
+        let g : at + n ≡ end = cc (stretch-to len at n f) in
+        let h = room len at n refl f in
+        (omega arith, omega arith)
+    go false f = let z : _≡_ {A = ℕ} 0 1 = cc (stretch-outside len at n f) in absurd (omega arith)

@@ -1,4 +1,5 @@
 pub mod Pick
 pub mod Put
+pub mod Same
 pub mod Stretch
 pub mod Walk

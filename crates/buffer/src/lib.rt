@@ -3,15 +3,23 @@
 // An output position may run past the end: what does not fit whole is not written, and the position
 // then is the length plus one and stays there. One test at the end tells whether everything was written.
 ghost use mathlib.Core.Path.{_≡_};
-ghost use lib.ListN.{length};
+ghost use lib.ListN.{length, take};
 ghost use lib.Seq.{sets};
 ghost use Rattle.buffer.specs.Put.{Put};
+ghost use Rattle.buffer.specs.Same.{sameBytes};
 ghost use Rattle.buffer.specs.Stretch.{fits, stretch};
 
 // Where a stretch of bytes ends.
 pub enum Stretch {
     To(usize),
     Outside,
+}
+
+// A byte as a number.
+pub fn wide(b: u8) -> u64
+    ensures { λ r. ⌜ r ≡ b ⌝ }
+{
+    b as u64
 }
 
 // Whether `n` bytes at `at` lie within the first `len`.
@@ -33,6 +41,16 @@ pub fn end_of(s: &[u8], start: usize, len: u64) -> Stretch
         return Stretch::To(start + n);
     }
     Stretch::Outside
+}
+
+// The first `n` bytes, or all.
+pub fn front(s: &[u8], n: usize) -> &[u8]
+    ensures { λ r. ⌜ now r ≡ take n (now (s .entry)) ⌝ }
+{
+    if n <= s.len() {
+        return &s[..n];
+    }
+    s
 }
 
 // Copies `src` to the front of `dst`, as far as it has room.
@@ -58,4 +76,21 @@ pub fn put(out: &mut [u8], at: usize, bytes: &[u8]) -> usize
         return at + bytes.len();
     }
     out.len() + 1
+}
+
+// Whether two slices hold the same bytes.
+pub fn same(a: &[u8], b: &[u8]) -> bool
+    ensures { λ r. ⌜ r ≡ sameBytes (now (a .entry)) (now (b .entry)) ⌝ }
+{
+    if a.len() != b.len() {
+        return false;
+    }
+    let mut i = 0;
+    while i < a.len() {
+        if a[i] != b[i] {
+            return false;
+        }
+        i += 1;
+    }
+    true
 }

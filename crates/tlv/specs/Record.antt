@@ -1,15 +1,14 @@
 -- Records, document 01, "Records and fields": a record is varint type, varint length, value.
 use Prim.Native.Nat.{ℕ, _-_}
 use mathlib.Core.List.{List, [], _∷_, _++_, map}
-use mathlib.Core.Bool.{Bool, true, false}
+use mathlib.Core.Bool.{Bool}
 use lib.ListN.{length, take, drop}
 use lib.Dec.{eqb}
 use Rattle.buffer.specs.Pick.{pick}
 use Rattle.buffer.specs.Walk.{Step, item, unreadable, Walked, walk}
-use Rattle.buffer.specs.Stretch.{stretch}
-use Rattle.buffer.specs.declared.Stretch.{Stretch}
-use Rattle.buffer.specs.declared.Stretch.the-variants.{To, Outside}
-use Rattle.varint.specs.Varint.{varintAt, varint}
+use Rattle.varint.specs.Varint.{varintAt, delimitedAt, two, delimited}
+use Rattle.varint.specs.declared.Delimited.{Delimited}
+use Rattle.varint.specs.declared.Delimited.the-variants.{At, Unreadable as Cut}
 use Rattle.varint.specs.declared.Varint.{Varint}
 use Rattle.varint.specs.declared.Varint.the-variants.{Number, Unreadable as Unspelt}
 use Rattle.tlv.specs.declared.Record.{Record}
@@ -20,19 +19,14 @@ use Rattle.tlv.specs.declared.Total.the-variants.{Records, Unreadable as
 use Rattle.tlv.specs.declared.Found.{Found}
 use Rattle.tlv.specs.declared.Found.the-variants.{Record as First, Nothing}
 
--- the record of a type whose value begins at `start`, where its end lies in the payload
-unfoldable pub ofStretch : ℕ → ℕ → Stretch → Taken
-ofStretch kind start (To end) = Whole (record { kind = kind; start = start; end = end })
-ofStretch kind start Outside = Unreadable
-
--- the same, once its length is read
-unfoldable pub ofLength : List ℕ → ℕ → Varint → Taken
-ofLength s kind (Number len start) = ofStretch kind start (stretch (length s) start len)
-ofLength s kind Unspelt = Unreadable
+-- the record of a type, where its value stands
+unfoldable pub ofValue : ℕ → Delimited → Taken
+ofValue kind (At start end) = Whole (record { kind = kind; start = start; end = end })
+ofValue kind Cut = Unreadable
 
 -- the same, once its type is read
 unfoldable pub ofKind : List ℕ → Varint → Taken
-ofKind s (Number kind mid) = ofLength s kind (varintAt s mid)
+ofKind s (Number kind mid) = ofValue kind (delimitedAt s mid)
 ofKind s Unspelt = Unreadable
 
 -- the record at a position of a payload
@@ -83,11 +77,11 @@ unfoldable pub readable : List ℕ → Bool
 readable s = recordsFrom s 0 .whole
 
 -- writing: shortest varints
-unfoldable pub recordHead : ℕ → ℕ → List ℕ
-recordHead kind len = varint kind ++ varint len
+abbrev pub recordHead : ℕ → ℕ → List ℕ
+recordHead kind len = two kind len
 
-unfoldable pub recordBytes : ℕ → List ℕ → List ℕ
-recordBytes kind value = recordHead kind (length value) ++ value
+abbrev pub recordBytes : ℕ → List ℕ → List ℕ
+recordBytes kind value = delimited kind value
 
 -- the written form of a list of records
 unfoldable pub payload : List Tlv → List ℕ

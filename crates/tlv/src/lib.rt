@@ -1,11 +1,9 @@
 // Records: a varint type, a varint length, a value. A reader walks the payload it was lent and hands
 // over where a value stands; nothing is copied out.
 ghost use mathlib.Core.Path.{_≡_};
-ghost use Prim.Native.Nat.{_+_, _^_, _<_};
-ghost use lib.ListN.{length};
 ghost use Rattle.buffer.specs.Put.{Put};
 ghost use Rattle.tlv.specs.Record.{recordAt, counted, foundFrom, recordHead, recordBytes};
-use buffer::Stretch;
+use varint::Delimited;
 use varint::Varint;
 
 // A record of a payload: its type, and its value's bytes from `start` up to `end`, where the next record begins.
@@ -47,10 +45,7 @@ impl Cursor {
         let Varint::Number(kind, mid) = varint::read(s, at) else {
             return Taken::Unreadable;
         };
-        let Varint::Number(len, start) = varint::read(s, mid) else {
-            return Taken::Unreadable;
-        };
-        let Stretch::To(end) = buffer::end_of(s, start, len) else {
+        let Delimited::At(start, end) = varint::read_delimited(s, mid) else {
             return Taken::Unreadable;
         };
         Taken::Record(Record { kind, start, end })
@@ -94,30 +89,12 @@ pub fn count(s: &[u8]) -> Total
 pub fn put_head(out: &mut [u8], at: usize, kind: u64, len: usize) -> usize
     ensures { λ r. ⌜ Put (now (out .entry)) at (recordHead kind len) (now (out .exit)) r ⌝ }
 {
-    let n = varint::len(kind) + varint::len(len as u64);
-    if buffer::has_room(out.len(), at, n) {
-        let mid = varint::put(out, at, kind);
-        return varint::put(out, mid, len as u64);
-    }
-    out.len() + 1
-}
-
-// How many bytes a record takes whose value has `len`.
-fn size(kind: u64, len: usize) -> usize
-    requires { ⌜ len < 2 ^ 63 ⌝ }
-    ensures { λ r. ⌜ r ≡ length (recordHead kind len) + len ⌝ }
-{
-    varint::len(kind) + varint::len(len as u64) + len
+    varint::put_two(out, at, kind, len as u64)
 }
 
 // Appends a whole record.
 pub fn put(out: &mut [u8], at: usize, kind: u64, value: &[u8]) -> usize
     ensures { λ r. ⌜ Put (now (out .entry)) at (recordBytes kind (now (value .entry))) (now (out .exit)) r ⌝ }
 {
-    let n = size(kind, value.len());
-    if buffer::has_room(out.len(), at, n) {
-        let mid = put_head(out, at, kind, value.len());
-        return buffer::put(out, mid, value);
-    }
-    out.len() + 1
+    varint::put_delimited(out, at, kind, value)
 }

@@ -1,17 +1,17 @@
 -- Laws of the spellings, one step each.
-use Prim.Native.Nat.{ℕ, zero, suc, _+_, _*_, _-_, _/_, _%_, _^_, _≤_, _<_}
+use Prim.Native.Nat.{ℕ, zero, suc, _+_, _*_, _-_, _/_, _%_, _≤_, _<_}
 use mathlib.Core.Path.{_≡_, refl, sym, ap, _∙_}
-use mathlib.Core.List.{List, [], _∷_, _++_}
+use mathlib.Core.List.{List, [], _∷_}
 use mathlib.Core.Bool.{Bool, true, false}
-use native.Mathlib.Nat.{mul-comm, mul-suc, mul-add, mul-assoc, mul-le-mul-left, add-assoc, zero-add, mul-one, add-zero, mul-zero}
+use native.Mathlib.Nat.{mul-comm, mul-suc, mul-add, mul-assoc, mul-le-mul-left}
 use native.Mathlib.Numerals.{add-one, sub-one}
 use native.Mathlib.Omega.{arith}
-use borrow.Author.Tests.{lt-ltb, le-ltb, ltb-true, ltb-false}
+use borrow.Author.Tests.{lt-ltb, le-ltb}
 use lib.Dec.{ltb}
 use lib.ListN.{length, getD, drop, drop-of-length-le, length-append}
 use lib.Seq.{drop-cons}
 use Rattle.buffer.specs.Pick.{pick}
-use Rattle.varint.specs.Varint.{more, spelt, varintAt, spelling, varint, two, delimited}
+use Rattle.varint.specs.Varint.{more, spelt, continued, spelling, varint, two, delimited}
 use Rattle.varint.specs.declared.Varint.{Varint}
 use Rattle.varint.specs.declared.Varint.the-variants.{Number, Unreadable}
 
@@ -31,7 +31,7 @@ spelling-end zero v h = refl
 spelling-end (suc k) v h = rw (lt-ltb v 128 h)
 
 pub spelling-more : (k v : ℕ) → 128 ≤ v → v < bound k
-    → (j : ℕ) × (k ≡ j + 1) × (v / 128 < bound j) × (spelling k v ≡ (v % 128 + 128) ∷ spelling j (v / 128))
+    → (j : ℕ) × (k ≡ j + 1) × (v / 128 < bound j) × (spelling k v ≡ continued (v % 128) ∷ spelling j (v / 128))
 unfolding spelling
 spelling-more zero v h g = absurd (omega arith)
 spelling-more (suc j) v h g = (j, omega arith, omega arith, rw (le-ltb v 128 h))
@@ -43,7 +43,7 @@ spelling-length zero v = (omega arith, omega arith)
 spelling-length (suc k) v = go (ltb v 128) (spelling-length k (v / 128))
   where
     go : (t : Bool) → (1 ≤ length (spelling k (v / 128))) × (length (spelling k (v / 128)) ≤ suc k)
-        → (1 ≤ length (pick t (v ∷ []) ((v % 128 + 128) ∷ spelling k (v / 128)))) × (length (pick t (v ∷ []) ((v % 128 + 128) ∷ spelling k (v / 128))) ≤ suc (suc k))
+        → (1 ≤ length (pick t (v ∷ []) (continued (v % 128) ∷ spelling k (v / 128)))) × (length (pick t (v ∷ []) (continued (v % 128) ∷ spelling k (v / 128))) ≤ suc (suc k))
     go true h = (omega arith, omega arith)
     go false h = (omega arith, omega arith)
 

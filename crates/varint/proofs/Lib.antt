@@ -1,2 +1,3 @@
+pub mod Stretched
 pub mod Laws
 pub mod Theorems

@@ -1,29 +1,29 @@
 -- What `specs/Statements.antt` states of varints, and the bounds that readers above use.
-use Prim.Native.Nat.{ℕ, zero, suc, _+_, _*_, _-_, _/_, _%_, _^_, _≤_, _<_}
-use mathlib.Core.Path.{_≡_, refl, sym, ap, ap₂, _∙_}
-use mathlib.Core.List.{List, [], _∷_, _++_, map}
+use Prim.Native.Nat.{ℕ, zero, suc, _+_, _*_, _/_, _%_, _^_, _≤_, _<_}
+use mathlib.Core.Path.{_≡_, refl, ap₂}
+use mathlib.Core.List.{List, [], _∷_, _++_}
 use mathlib.Core.Bool.{Bool, true, false}
 use native.Mathlib.Omega.{arith}
-use borrow.Author.Tests.{lt-ltb, le-ltb, ltb-true, ltb-false}
+use borrow.Author.Tests.{lt-ltb, le-ltb, ltb-true}
 use lib.Dec.{ltb}
 use lib.ListN.{length, drop, length-drop}
 use lib.Seq.{drop-append-seam}
 use Rattle.buffer.specs.Pick.{pick}
-use Rattle.varint.specs.Varint.{more, spelt, varintAt, spelling, varint}
+use Rattle.varint.specs.Varint.{more, spelt, varintAt, continued, spelling, varint}
 use Rattle.varint.specs.Statements.{RoundTrip, SamplesRead}
 use Rattle.varint.specs.declared.Varint.{Varint}
 use Rattle.varint.specs.declared.Varint.the-variants.{Number, Unreadable}
 use Rattle.varint.proofs.Laws.{bound, bound-two}
 
 back-at : (k v : ℕ) (rest : List ℕ) (at : ℕ) → v < bound k → spelt k (spelling k v ++ rest) at ≡ Number v (at + length (spelling k v))
-unfolding spelt spelling more
+unfolding spelt spelling more continued
 back-at zero v rest at h = rw (lt-ltb v 2 h)
 back-at (suc k) v rest at h = go (ltb v 128) refl (back-at k (v / 128) rest (at + 1) (omega arith))
   where
     go : (t : Bool) → ltb v 128 ≡ t
         → spelt k (spelling k (v / 128) ++ rest) (at + 1) ≡ Number (v / 128) (at + 1 + length (spelling k (v / 128)))
-        → spelt (suc k) (pick t (v ∷ []) ((v % 128 + 128) ∷ spelling k (v / 128)) ++ rest) at
-        ≡ Number v (at + length (pick t (v ∷ []) ((v % 128 + 128) ∷ spelling k (v / 128))))
+        → spelt (suc k) (pick t (v ∷ []) (continued (v % 128) ∷ spelling k (v / 128)) ++ rest) at
+        ≡ Number v (at + length (pick t (v ∷ []) (continued (v % 128) ∷ spelling k (v / 128))))
     go true e ih = rw e
     go false e ih =
         let b = le-ltb (v % 128 + 128) 128 (omega arith) in

@@ -27,10 +27,14 @@ spelt (suc k) (b ∷ s) at = pick (ltb b 128) (Number b (at + 1)) (more b (spelt
 unfoldable pub varintAt : List ℕ → ℕ → Varint
 varintAt s at = spelt 9 (drop at s) at
 
+-- a byte that has more behind it
+unfoldable pub continued : ℕ → ℕ
+continued d = d + 128
+
 -- the shortest spelling, where k bytes may follow the first
 unfoldable pub spelling : ℕ → ℕ → List ℕ
 spelling zero v = v ∷ []
-spelling (suc k) v = pick (ltb v 128) (v ∷ []) ((v % 128 + 128) ∷ spelling k (v / 128))
+spelling (suc k) v = pick (ltb v 128) (v ∷ []) (continued (v % 128) ∷ spelling k (v / 128))
 
 -- the shortest spelling of a number below 2^64
 unfoldable pub varint : ℕ → List ℕ

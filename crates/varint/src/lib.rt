@@ -19,13 +19,6 @@ pub enum Delimited {
     Unreadable,
 }
 
-// A byte as a number.
-fn wide(b: u8) -> u64
-    ensures { λ r. ⌜ r ≡ b ⌝ }
-{
-    b as u64
-}
-
 // The number that stands at `at`: at most ten bytes, the tenth 0 or 1.
 pub fn read(s: &[u8], at: usize) -> Varint
     ensures { λ r. ⌜ r ≡ varintAt (now (s .entry)) at ⌝ }
@@ -35,7 +28,7 @@ pub fn read(s: &[u8], at: usize) -> Varint
     let mut left: u32 = 9;
     let mut i = at;
     while i < s.len() {
-        let b = wide(s[i]);
+        let b = buffer::wide(s[i]);
         if left == 0 {
             if b < 2 {
                 return Varint::Number(value + b * scale, i + 1);

@@ -7,8 +7,6 @@ use lib.Seq.{sets}
 use Rattle.buffer.proofs.Puts.{sets-out, sets-next}
 use Rattle.buffer.proofs.copy.Statement.{statement}
 use Rattle.buffer.proofs.copy.Tie as tie
-use Rattle.buffer.proofs.copy.Reads as reads
-use Rattle.buffer.proofs.copy.Lts as lts
 
 abbrev Inv-loop : tie.InvT-loop
 Inv-loop dst₀ src i₀ dst i = (i ≤ length src) × (length dst ≡ length dst₀) × (sets dst₀ 0 src ≡ sets dst i (drop i src))
@@ -16,48 +14,38 @@ Inv-loop dst₀ src i₀ dst i = (i ≤ length src) × (length dst ≡ length ds
 abbrev μ-loop : tie.MeasureT-loop
 μ-loop dst₀ src i₀ dst i = length src - i
 
--- src/lib.rt:36:5
 loop-holds : tie.Need-loop-holds Inv-loop μ-loop
 loop-holds c = (omega arith, refl, refl)
 
--- src/lib.rt:38:13
 same-length : tie.Need-same-length Inv-loop μ-loop
 same-length c = c .before .before .loop .inv .1
 
--- src/lib.rt:38:13
 returns : tie.Need-returns Inv-loop μ-loop
 returns c =
     let l = c .before .before .loop in
     sym (l .inv .2 ∙ sets-out (drop (l .i) (c .before .before .before .args .src .now)) (l .dst) (l .i) (c .if1 .taken))
 
--- src/lib.rt:40:18
 shared-slice-read-dst : tie.Need-shared-slice-read-dst Inv-loop μ-loop
 shared-slice-read-dst c = omega arith
 
--- src/lib.rt:40:9
 slice-write-dst : tie.Need-slice-write-dst Inv-loop μ-loop
 slice-write-dst c = omega arith
 
--- src/lib.rt:41:9
 add-i : tie.Need-add-i Inv-loop μ-loop
 add-i c = omega arith
 
--- src/lib.rt:36:5
 loop-less : tie.Need-loop-less Inv-loop μ-loop
 loop-less c = omega arith
 
--- src/lib.rt:36:5
 loop-again : tie.Need-loop-again Inv-loop μ-loop
 loop-again c =
     let l = c .before .before .before .loop in
     let s = c .before .before .before .before .args .src .now in
     (omega arith, simp length-set (l .inv .1), l .inv .2 ∙ sets-next (l .dst) s (l .i) 0 (c .before .before .loop-test .taken))
 
--- src/lib.rt:32:1
 same-length-2 : tie.Need-same-length-2 Inv-loop μ-loop
 same-length-2 c = c .before .loop .inv .1
 
--- src/lib.rt:32:1
 returns-2 : tie.Need-returns-2 Inv-loop μ-loop
 returns-2 c =
     let l = c .before .loop in

@@ -5,23 +5,16 @@ use Rattle.buffer.proofs.Stretches.{stretch-to, stretch-outside, room}
 use borrow.Author.Needs.{needs}
 use Rattle.buffer.proofs.end_of.Statement.{statement}
 use Rattle.buffer.proofs.end_of.Tie as tie
-use Rattle.buffer.proofs.end_of.Reads as reads
-use Rattle.buffer.proofs.end_of.Lts as lts
-use Rattle.buffer.proofs.has_room.Reads as has-room-reads
 
--- src/lib.rt:34:8
 has-room-requires : tie.Need-has-room-requires
 has-room-requires c κs = search needs
 
--- src/lib.rt:35:28
 add-t7 : tie.Need-add-t7
 add-t7 c = omega (arith, room _ _ _ (c .before .has-room .ensures) (c .if1 .taken))
 
--- src/lib.rt:35:9
 returns : tie.Need-returns
 returns c = sym (stretch-to _ _ _ (sym (c .before .has-room .ensures) ∙ c .if1 .taken))
 
--- src/lib.rt:30:1
 returns-2 : tie.Need-returns-2
 returns-2 c = sym (stretch-outside _ _ _ (sym (c .before .has-room .ensures) ∙ c .if1 .left))
 

@@ -1,17 +1,13 @@
 -- `buffer::has_room` meets its contract.
-use mathlib.Core.Path.{sym, _∙_}
+use mathlib.Core.Path.{sym}
 use native.Mathlib.Omega.{arith}
 use Rattle.buffer.proofs.Stretches.{fits-moved, fits-false}
 use Rattle.buffer.proofs.has_room.Statement.{statement}
 use Rattle.buffer.proofs.has_room.Tie as tie
-use Rattle.buffer.proofs.has_room.Reads as reads
-use Rattle.buffer.proofs.has_room.Lts as lts
 
--- src/lib.rt:24:9
 returns : tie.Need-returns
 returns c = sym (fits-false _ _ _ (omega arith))
 
--- src/lib.rt:20:1
 returns-2 : tie.Need-returns-2
 returns-2 c = let a = c .before .args in fits-moved (a .len) (a .at) (a .n) (c .if1 .left)
 

@@ -6,40 +6,28 @@ use Rattle.buffer.proofs.Stretches.{room}
 use borrow.Author.Needs.{needs}
 use Rattle.buffer.proofs.put.Statement.{statement}
 use Rattle.buffer.proofs.put.Tie as tie
-use Rattle.buffer.proofs.put.Reads as reads
-use Rattle.buffer.proofs.put.Lts as lts
-use Rattle.buffer.proofs.copy.Reads as copy-reads
-use Rattle.buffer.proofs.has_room.Reads as has-room-reads
 
--- src/lib.rt:58:8
 has-room-requires : tie.Need-has-room-requires
 has-room-requires c κs = search needs
 
--- src/lib.rt:59:14
 sub-copy : tie.Need-sub-copy
 sub-copy c = omega (arith, room _ _ _ (c .before .has-room .ensures) (c .if1 .taken))
 
--- src/lib.rt:59:14
 part-copy-start : tie.Need-part-copy-start
 part-copy-start c = omega (arith, room _ _ _ (c .before .has-room .ensures) (c .if1 .taken))
 
--- src/lib.rt:59:14
 part-copy-end : tie.Need-part-copy-end
 part-copy-end c = search needs
 
--- src/lib.rt:59:9
 copy-requires : tie.Need-copy-requires
 copy-requires c κs = search needs
 
--- src/lib.rt:60:16
 add-result : tie.Need-add-result
 add-result c = omega (arith, room _ _ _ (c .before .before .before .before .before .has-room .ensures) (c .before .before .before .before .if1 .taken))
 
--- src/lib.rt:60:9
 same-length : tie.Need-same-length
 same-length c = search needs
 
--- src/lib.rt:60:9
 returns : tie.Need-returns
 returns c =
     let a = c .before .before .before .before .before .before .before .before .args in
@@ -48,11 +36,9 @@ returns c =
     let p = put-fits (a .out .now) (a .at) (a .bytes .now) (sym (c .before .before .before .before .before .has-room .ensures) ∙ c .before .before .before .before .if1 .taken) in
     record { bytes = e ∙ p .bytes; position = p .position }
 
--- src/lib.rt:62:5
 add-result-2 : tie.Need-add-result-2
 add-result-2 c = search needs
 
--- src/lib.rt:55:1
 returns-2 : tie.Need-returns-2
 returns-2 c = put-full _ _ _ (sym (c .before .has-room .ensures) ∙ c .if1 .left)
 

@@ -1,50 +1,58 @@
+-- `count` meets its contract: the records counted so far and those from where the loop stands are all.
+use Prim.Native.Nat.{_-_, _≤_}
+use mathlib.Core.Path.{_≡_, sym, _∙_}
+use native.Mathlib.Omega.{arith}
+use lib.ListN.{length}
+use borrow.Author.Needs.{needs}
+use Rattle.tlv.specs.Record.{counted}
+use Rattle.tlv.proofs.Laws.{record-inside, countedFrom, counted-start, counted-end, counted-unreadable, counted-next}
 use Rattle.tlv.proofs.count.Statement.{statement}
 use Rattle.tlv.proofs.count.Tie as tie
-use Rattle.tlv.proofs.count.Reads as reads
-use Rattle.tlv.proofs.count.Lts as lts
-use Rattle.tlv.proofs.Cursor.take.Reads as take-reads
 
 abbrev Inv-loop : tie.InvT-loop
-Inv-loop s cursor₀ n₀ cursor n = ?
+Inv-loop s cursor₀ n₀ cursor n = (counted s ≡ countedFrom s (cursor .at) n) × (n ≤ cursor .at)
 
 abbrev μ-loop : tie.MeasureT-loop
-μ-loop s cursor₀ n₀ cursor n = ?
+μ-loop s cursor₀ n₀ cursor n = length s - cursor .at
 
--- src/lib.rt:82:5
 loop-holds : tie.Need-loop-holds Inv-loop μ-loop
-loop-holds c = ?
+loop-holds c = (counted-start (c .before .args .s .now), omega arith)
 
--- src/lib.rt:83:37
 take-requires : tie.Need-take-requires Inv-loop μ-loop
-take-requires c κs = ?
+take-requires c κs = search needs
 
--- src/lib.rt:83:27
 enum-known-record : tie.Need-enum-known-record Inv-loop μ-loop
-enum-known-record c = ?
+enum-known-record c = search needs
 
--- src/lib.rt:84:13
 enum-told : tie.Need-enum-told Inv-loop μ-loop
-enum-told c = ?
+enum-told c = search needs
 
--- src/lib.rt:84:13
 returns : tie.Need-returns Inv-loop μ-loop
-returns c = ?
+returns c =
+    let l = c .before .before .before .before .before .loop in
+    sym (l .inv .0 ∙ counted-unreadable (c .before .before .before .before .before .before .before .args .s .now) (l .cursor .at) (l .n) (c .before .before .before .if1 .taken) (sym (c .before .before .take .ensures) ∙ c .enum-told .given .1))
 
--- src/lib.rt:87:9
 add-n : tie.Need-add-n Inv-loop μ-loop
-add-n c = ?
+add-n c = omega arith
 
--- src/lib.rt:82:5
 loop-less : tie.Need-loop-less Inv-loop μ-loop
-loop-less c = ?
+loop-less c =
+    let l = c .before .before .before .before .before .before .loop in
+    let i = record-inside (c .before .before .before .before .before .before .before .before .args .s .now) (l .cursor .at) _ (sym (c .before .before .before .take .ensures) ∙ c .before .«record» .given .1) in
+    omega arith
 
--- src/lib.rt:82:5
 loop-again : tie.Need-loop-again Inv-loop μ-loop
-loop-again c = ?
+loop-again c =
+    let l = c .before .before .before .before .before .before .loop in
+    let s = c .before .before .before .before .before .before .before .before .args .s .now in
+    let e = sym (c .before .before .before .take .ensures) ∙ c .before .«record» .given .1 in
+    let i = record-inside s (l .cursor .at) _ e in
+    (l .inv .0 ∙ counted-next s (l .cursor .at) (l .n) _ e, omega arith)
 
--- src/lib.rt:77:1
 returns-2 : tie.Need-returns-2 Inv-loop μ-loop
-returns-2 c = ?
+returns-2 c =
+    let l = c .before .before .loop in
+    sym (l .inv .0 ∙ counted-end (c .before .before .before .before .args .s .now) (l .cursor .at) (l .n) (c .if1 .left))
 
 pub count-spec : {M : Type 1} → statement M
 count-spec =

@@ -1,15 +1,12 @@
 -- `varint::len` meets its contract: each turn takes a byte off the spelling that is left.
-use Prim.Native.Nat.{ℕ, zero, suc, _+_, _/_, _≤_, _<_}
+use Prim.Native.Nat.{ℕ, _+_, _<_}
 use mathlib.Core.Path.{_≡_, refl, ap}
-use mathlib.Core.List.{[], _∷_}
 use native.Mathlib.Omega.{arith}
 use lib.ListN.{length}
 use Rattle.varint.specs.Varint.{spelling, varint}
 use Rattle.varint.proofs.Laws.{bound, spelling-end, spelling-more}
 use Rattle.varint.proofs.len.Statement.{statement}
 use Rattle.varint.proofs.len.Tie as tie
-use Rattle.varint.proofs.len.Reads as reads
-use Rattle.varint.proofs.len.Lts as lts
 
 abbrev Inv-loop : tie.InvT-loop
 Inv-loop v rest₀ n₀ rest n =
@@ -18,27 +15,22 @@ Inv-loop v rest₀ n₀ rest n =
 abbrev μ-loop : tie.MeasureT-loop
 μ-loop v rest₀ n₀ rest n = rest
 
--- src/lib.rt:53:5
 loop-holds : tie.Need-loop-holds Inv-loop μ-loop
 unfolding varint
 loop-holds c = (9, omega arith, omega arith, refl)
 
--- src/lib.rt:55:9
 add-n : tie.Need-add-n Inv-loop μ-loop
 add-n c = omega arith
 
--- src/lib.rt:53:5
 loop-less : tie.Need-loop-less Inv-loop μ-loop
 loop-less c = omega arith
 
--- src/lib.rt:53:5
 loop-again : tie.Need-loop-again Inv-loop μ-loop
 loop-again c =
     let l = c .before .loop in
     let m = spelling-more (l .inv .0) (l .rest) (c .loop-test .taken) (l .inv .1) in
     (m .0, m .2, omega (arith, ap length (m .3), l .inv .2), omega (arith, m .1, l .inv .3))
 
--- src/lib.rt:48:1
 returns : tie.Need-returns Inv-loop μ-loop
 returns c = let l = c .before .loop in let e = ap length (spelling-end (l .inv .0) (l .rest) (c .loop-test .left)) in omega (arith, e, l .inv .2)
 

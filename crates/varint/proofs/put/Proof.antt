@@ -6,39 +6,27 @@ use Rattle.buffer.proofs.Puts.{put-full}
 use borrow.Author.Needs.{needs}
 use Rattle.varint.proofs.put.Statement.{statement}
 use Rattle.varint.proofs.put.Tie as tie
-use Rattle.varint.proofs.put.Reads as reads
-use Rattle.varint.proofs.put.Lts as lts
-use Rattle.buffer.proofs.has_room.Reads as has-room-reads
-use Rattle.varint.proofs.len.Reads as len-reads
-use Rattle.varint.proofs.write.Reads as write-reads
 
--- src/lib.rt:66:40
 len-requires : tie.Need-len-requires
 len-requires c κs = search needs
 
--- src/lib.rt:66:8
 has-room-requires : tie.Need-has-room-requires
 has-room-requires c κs = search needs
 
--- src/lib.rt:67:9
 write-requires : tie.Need-write-requires
 write-requires c κs =
     let a = c .before .before .before .before .before .args in
     ap (fits (length (a .out .now)) (a .at)) (sym (c .before .before .before .len .ensures)) ∙ sym (c .before .before .has-room .ensures) ∙ c .before .if1 .taken
 
--- src/lib.rt:67:9
 same-length : tie.Need-same-length
 same-length c = search needs
 
--- src/lib.rt:67:9
 returns : tie.Need-returns
 returns c = search needs
 
--- src/lib.rt:69:5
 add-result : tie.Need-add-result
 add-result c = search needs
 
--- src/lib.rt:63:1
 returns-2 : tie.Need-returns-2
 returns-2 c =
     let a = c .before .before .before .before .args in

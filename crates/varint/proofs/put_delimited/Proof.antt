@@ -10,50 +10,35 @@ use Rattle.varint.proofs.Laws.{varint-length, delimited-length}
 use borrow.Author.Needs.{needs}
 use Rattle.varint.proofs.put_delimited.Statement.{statement}
 use Rattle.varint.proofs.put_delimited.Tie as tie
-use Rattle.varint.proofs.put_delimited.Reads as reads
-use Rattle.varint.proofs.put_delimited.Lts as lts
-use Rattle.buffer.proofs.has_room.Reads as has-room-reads
-use Rattle.buffer.proofs.put.Reads as put-reads
-use Rattle.varint.proofs.len.Reads as len-reads
-use Rattle.varint.proofs.put_two.Reads as put-two-reads
 
--- src/lib.rt:124:13
 len-requires : tie.Need-len-requires
 len-requires c κs = search needs
 
--- src/lib.rt:124:24
 len-requires-2 : tie.Need-len-requires-2
 len-requires-2 c κs = search needs
 
--- src/lib.rt:124:13
 add-n : tie.Need-add-n
 add-n c =
     let a = c .before .before .before .before .args in
     omega (arith, varint-length (a .key), varint-length (length (a .bytes .now)), c .before .len .ensures, c .len2 .ensures)
 
--- src/lib.rt:124:13
 add-n-2 : tie.Need-add-n-2
 add-n-2 c =
     let a = c .before .before .before .before .args in
     omega (arith, varint-length (a .key), varint-length (length (a .bytes .now)), c .before .len .ensures, c .len2 .ensures, c .before .before .before .before .good)
 
--- src/lib.rt:125:8
 has-room-requires : tie.Need-has-room-requires
 has-room-requires c κs = search needs
 
--- src/lib.rt:126:13
 put-two-requires : tie.Need-put-two-requires
 put-two-requires c κs = search needs
 
--- src/lib.rt:127:9
 put-requires : tie.Need-put-requires
 put-requires c κs = search needs
 
--- src/lib.rt:127:9
 same-length : tie.Need-same-length
 same-length c = search needs
 
--- src/lib.rt:127:9
 returns : tie.Need-returns
 unfolding delimited
 returns c =
@@ -62,11 +47,9 @@ returns c =
     let room = tested _ _ _ _ (n ∙ delimited-length (a .key) (a .bytes .now)) (c .before .before .before .before .before .before .before .before .before .has-room .ensures) (c .before .before .before .before .before .before .before .before .if1 .taken) in
     put-join (a .out .now) (a .at) (two (a .key) (length (a .bytes .now))) (a .bytes .now) room (c .before .before .before .before .before .before .put-two .ensures) (c .before .before .put .ensures)
 
--- src/lib.rt:129:5
 add-result : tie.Need-add-result
 add-result c = search needs
 
--- src/lib.rt:121:1
 returns-2 : tie.Need-returns-2
 returns-2 c =
     let a = c .before .before .before .before .before .before .args in

@@ -9,43 +9,30 @@ use Rattle.varint.proofs.Laws.{varint-length, two-length}
 use borrow.Author.Needs.{needs}
 use Rattle.varint.proofs.put_two.Statement.{statement}
 use Rattle.varint.proofs.put_two.Tie as tie
-use Rattle.varint.proofs.put_two.Reads as reads
-use Rattle.varint.proofs.put_two.Lts as lts
-use Rattle.buffer.proofs.has_room.Reads as has-room-reads
-use Rattle.varint.proofs.len.Reads as len-reads
-use Rattle.varint.proofs.put.Reads as put-reads
 
--- src/lib.rt:112:13
 len-requires : tie.Need-len-requires
 len-requires c κs = search needs
 
--- src/lib.rt:112:22
 len-requires-2 : tie.Need-len-requires-2
 len-requires-2 c κs = search needs
 
--- src/lib.rt:112:13
 add-n : tie.Need-add-n
 add-n c =
     let a = c .before .before .before .args in
     omega (arith, varint-length (a .a), varint-length (a .b), c .before .len .ensures, c .len2 .ensures)
 
--- src/lib.rt:113:8
 has-room-requires : tie.Need-has-room-requires
 has-room-requires c κs = search needs
 
--- src/lib.rt:114:13
 put-requires : tie.Need-put-requires
 put-requires c κs = search needs
 
--- src/lib.rt:115:9
 put-requires-2 : tie.Need-put-requires-2
 put-requires-2 c κs = search needs
 
--- src/lib.rt:115:9
 same-length : tie.Need-same-length
 same-length c = search needs
 
--- src/lib.rt:115:9
 returns : tie.Need-returns
 unfolding two
 returns c =
@@ -53,11 +40,9 @@ returns c =
     let room = tested _ _ _ _ (ap₂ _+_ (c .before .before .before .before .before .before .before .before .before .before .before .len .ensures) (c .before .before .before .before .before .before .before .before .before .before .len2 .ensures) ∙ two-length (a .a) (a .b)) (c .before .before .before .before .before .before .before .before .before .has-room .ensures) (c .before .before .before .before .before .before .before .before .if1 .taken) in
     put-join (a .out .now) (a .at) (varint (a .a)) (varint (a .b)) room (c .before .before .before .before .before .before .put .ensures) (c .before .before .put2 .ensures)
 
--- src/lib.rt:117:5
 add-result : tie.Need-add-result
 add-result c = search needs
 
--- src/lib.rt:109:1
 returns-2 : tie.Need-returns-2
 returns-2 c =
     let a = c .before .before .before .before .before .args in

@@ -1,5 +1,5 @@
 -- `varint::read` meets its contract: the number is what the bytes read so far and the spelling that is left make together.
-use Prim.Native.Nat.{ℕ, _+_, _*_, _-_, _%_, _^_, _≤_, _<_}
+use Prim.Native.Nat.{_+_, _*_, _-_, _%_, _^_, _<_}
 use mathlib.Core.Path.{_≡_, refl, sym, ap, _∙_}
 use native.Mathlib.Nat.{mul-le-mul-left}
 use native.Mathlib.Omega.{arith}
@@ -8,9 +8,6 @@ use Rattle.varint.specs.Varint.{spelt, varintAt}
 use Rattle.varint.proofs.Laws.{bound, finish, finish-start, finish-more, digit-fits, read-last, read-over, read-digit, read-more, read-none, scale-next, bound-more, bound-two}
 use Rattle.varint.proofs.read.Statement.{statement}
 use Rattle.varint.proofs.read.Tie as tie
-use Rattle.varint.proofs.read.Reads as reads
-use Rattle.varint.proofs.read.Lts as lts
-use Rattle.varint.proofs.wide.Reads as wide-reads
 
 abbrev Inv-loop : tie.InvT-loop
 Inv-loop s at value₀ scale₀ left₀ i₀ value scale left i =
@@ -19,39 +16,32 @@ Inv-loop s at value₀ scale₀ left₀ i₀ value scale left i =
 abbrev μ-loop : tie.MeasureT-loop
 μ-loop s at value₀ scale₀ left₀ i₀ value scale left i = length s - i
 
--- src/lib.rt:28:5
 loop-holds : tie.Need-loop-holds Inv-loop μ-loop
 unfolding varintAt
 loop-holds c =
     let a = c .before .args in (finish-start (spelt 9 (drop (a .at) (a .s .now)) (a .at)), refl, omega arith)
 
--- src/lib.rt:29:22
 shared-slice-read-wide : tie.Need-shared-slice-read-wide Inv-loop μ-loop
 shared-slice-read-wide c = omega arith
 
--- src/lib.rt:29:13
 wide-requires : tie.Need-wide-requires Inv-loop μ-loop
 wide-requires c κs = tt
 
--- src/lib.rt:32:47
 mul-t13 : tie.Need-mul-t13 Inv-loop μ-loop
 mul-t13 c =
     let l = c .before .before .before .before .before .loop in
     let b = c .before .before .wide .result in
     omega (arith, digit-fits (l .value) (l .scale) b (bound (l .left)) (2 ^ 64) (l .inv .2) (let r = bound-two (l .left) in omega arith) (l .inv .1))
 
--- src/lib.rt:32:39
 add-t14 : tie.Need-add-t14 Inv-loop μ-loop
 add-t14 c =
     let l = c .before .before .before .before .before .loop in
     let b = c .before .before .wide .result in
     omega (arith, digit-fits (l .value) (l .scale) b (bound (l .left)) (2 ^ 64) (l .inv .2) (let r = bound-two (l .left) in omega arith) (l .inv .1))
 
--- src/lib.rt:32:58
 add-t15 : tie.Need-add-t15 Inv-loop μ-loop
 add-t15 c = omega arith
 
--- src/lib.rt:32:17
 returns : tie.Need-returns Inv-loop μ-loop
 returns c =
     let l = c .before .before .before .before .before .loop in
@@ -59,7 +49,6 @@ returns c =
     let s = c .before .before .before .before .before .before .before .args .s .now in
     sym (l .inv .0 ∙ ap (finish (l .value) (l .scale)) (read-last s (l .i) b (c .before .before .before .before .loop-test .taken) (c .before .before .wide .ensures) (l .left) (c .before .if1 .taken) (c .if2 .taken)))
 
--- src/lib.rt:34:13
 returns-2 : tie.Need-returns-2 Inv-loop μ-loop
 returns-2 c =
     let l = c .before .before .before .before .before .loop in
@@ -67,25 +56,21 @@ returns-2 c =
     let s = c .before .before .before .before .before .before .before .args .s .now in
     sym (l .inv .0 ∙ ap (finish (l .value) (l .scale)) (read-over s (l .i) b (c .before .before .before .before .loop-test .taken) (c .before .before .wide .ensures) (l .left) (c .before .if1 .taken) (c .if2 .left)))
 
--- src/lib.rt:37:43
 mul-t16 : tie.Need-mul-t16 Inv-loop μ-loop
 mul-t16 c =
     let l = c .before .before .before .before .before .loop in
     let b = c .before .before .wide .result in
     omega (arith, digit-fits (l .value) (l .scale) b (bound (l .left)) (2 ^ 64) (l .inv .2) (let r = bound-more (l .left) (c .before .if1 .left) in omega arith) (l .inv .1))
 
--- src/lib.rt:37:35
 add-t17 : tie.Need-add-t17 Inv-loop μ-loop
 add-t17 c =
     let l = c .before .before .before .before .before .loop in
     let b = c .before .before .wide .result in
     omega (arith, digit-fits (l .value) (l .scale) b (bound (l .left)) (2 ^ 64) (l .inv .2) (let r = bound-more (l .left) (c .before .if1 .left) in omega arith) (l .inv .1))
 
--- src/lib.rt:37:54
 add-t18 : tie.Need-add-t18 Inv-loop μ-loop
 add-t18 c = omega arith
 
--- src/lib.rt:37:13
 returns-3 : tie.Need-returns-3 Inv-loop μ-loop
 returns-3 c =
     let l = c .before .before .before .before .before .loop in
@@ -93,50 +78,43 @@ returns-3 c =
     let s = c .before .before .before .before .before .before .before .args .s .now in
     sym (l .inv .0 ∙ ap (finish (l .value) (l .scale)) (read-digit s (l .i) b (c .before .before .before .before .loop-test .taken) (c .before .before .wide .ensures) (l .left) (c .before .if1 .left) (c .if3 .taken)))
 
--- src/lib.rt:39:18
 mul-value : tie.Need-mul-value Inv-loop μ-loop
 mul-value c =
     let l = c .before .before .before .before .before .loop in
     let b = c .before .before .wide .result in
     omega (arith, digit-fits (l .value) (l .scale) (b % 128) (bound (l .left)) (2 ^ 64) (l .inv .2) (let r = bound-more (l .left) (c .before .if1 .left) in omega arith) (l .inv .1))
 
--- src/lib.rt:39:9
 add-value : tie.Need-add-value Inv-loop μ-loop
 add-value c =
     let l = c .before .before .before .before .before .loop in
     let b = c .before .before .wide .result in
     omega (arith, digit-fits (l .value) (l .scale) (b % 128) (bound (l .left)) (2 ^ 64) (l .inv .2) (let r = bound-more (l .left) (c .before .if1 .left) in omega arith) (l .inv .1))
 
--- src/lib.rt:40:9
 mul-scale : tie.Need-mul-scale Inv-loop μ-loop
 mul-scale c =
     let l = c .before .before .before .before .before .loop in
     omega (arith, mul-le-mul-left {m = 256} {n = bound (l .left)} (l .scale) (bound-more (l .left) (c .before .if1 .left)), l .inv .1, l .inv .2)
 
--- src/lib.rt:41:9
 sub-left : tie.Need-sub-left Inv-loop μ-loop
 sub-left c = omega arith
 
--- src/lib.rt:42:9
 add-i : tie.Need-add-i Inv-loop μ-loop
 add-i c = omega arith
 
--- src/lib.rt:28:5
 loop-less : tie.Need-loop-less Inv-loop μ-loop
 loop-less c = omega arith
 
--- src/lib.rt:28:5
 loop-again : tie.Need-loop-again Inv-loop μ-loop
 loop-again c =
     let l = c .before .before .before .before .before .loop in
     let b = c .before .before .wide .result in
-    let s = c .before .before .before .before .before .before .before .args .s .now in
-    (l .inv .0 ∙ ap (finish (l .value) (l .scale)) (read-more s (l .i) b (c .before .before .before .before .loop-test .taken) (c .before .before .wide .ensures) (l .left) (c .before .if1 .left) (c .if3 .left))
-        ∙ finish-more (l .value) (l .scale) b (spelt (l .left - 1) (drop (l .i + 1) s) (l .i + 1)),
+    let s = c .before .before .before .before .before .before .before .args .s .now in (
+      l .inv .0 ∙ ap (finish (l .value) (l .scale)) (read-more s (l .i) b (c .before .before .before .before .loop-test .taken) (c .before .before .wide .ensures) (l .left) (c .before .if1 .left) (c .if3 .left))
+          ∙ finish-more (l .value) (l .scale) b (spelt (l .left - 1) (drop (l .i + 1) s) (l .i + 1)),
       scale-next (l .scale) (l .left) (2 ^ 64) (c .before .if1 .left) (l .inv .1),
-      digit-fits (l .value) (l .scale) (b % 128) 128 (l .scale * 128) (l .inv .2) (omega arith) refl)
+      digit-fits (l .value) (l .scale) (b % 128) 128 (l .scale * 128) (l .inv .2) (omega arith) refl,
+    )
 
--- src/lib.rt:21:1
 returns-4 : tie.Need-returns-4 Inv-loop μ-loop
 returns-4 c =
     let l = c .before .loop in

@@ -4,50 +4,37 @@ use Rattle.varint.specs.Varint.{delimitedAt, ofLength, ofStretch}
 use borrow.Author.Needs.{needs}
 use Rattle.varint.proofs.read_delimited.Statement.{statement}
 use Rattle.varint.proofs.read_delimited.Tie as tie
-use Rattle.varint.proofs.read_delimited.Reads as reads
-use Rattle.varint.proofs.read_delimited.Lts as lts
-use Rattle.buffer.proofs.end_of.Reads as end-of-reads
-use Rattle.varint.proofs.read.Reads as read-reads
 
--- src/lib.rt:60:38
 read-requires : tie.Need-read-requires
 read-requires c κs = search needs
 
--- src/lib.rt:60:24
 enum-known-len : tie.Need-enum-known-len
 enum-known-len c = search needs
 
--- src/lib.rt:61:9
 enum-told : tie.Need-enum-told
 enum-told c = search needs
 
--- src/lib.rt:61:9
 returns : tie.Need-returns
 unfolding delimitedAt ofLength
 returns c =
     let s = c .before .before .before .before .args .s .now in
     sym (ap (ofLength s) (sym (c .before .before .read .ensures) ∙ c .enum-told .given .1))
 
--- src/lib.rt:63:28
 end-of-requires : tie.Need-end-of-requires
 end-of-requires c κs = search needs
 
--- src/lib.rt:63:21
 enum-known-end : tie.Need-enum-known-end
 enum-known-end c = search needs
 
--- src/lib.rt:64:9
 enum-told-2 : tie.Need-enum-told-2
 enum-told-2 c = search needs
 
--- src/lib.rt:64:9
 returns-2 : tie.Need-returns-2
 unfolding delimitedAt ofLength ofStretch
 returns-2 c =
     let s = c .before .before .before .before .before .before .before .before .args .s .now in
     sym (ap (ofLength s) (sym (c .before .before .before .before .before .before .read .ensures) ∙ c .before .before .before .before .len .given .1) ∙ ap (ofStretch _) (sym (c .before .before .end-of .ensures) ∙ c .enum-told2 .given .1))
 
--- src/lib.rt:57:1
 returns-3 : tie.Need-returns-3
 unfolding delimitedAt ofLength ofStretch
 returns-3 c =

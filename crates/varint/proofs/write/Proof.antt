@@ -1,19 +1,16 @@
 -- `varint::write` meets its contract: what is left of the spelling, stored from where the loop stands, is all of it stored at the position.
 use Prim.Native.Nat.{ℕ, _+_, _/_, _%_, _≤_, _<_}
 use mathlib.Core.Path.{_≡_, refl, sym, ap, _∙_}
-use mathlib.Core.List.{[], _∷_}
 use native.Mathlib.Numerals.{add-one}
 use native.Mathlib.Omega.{arith}
 use lib.ListN.{length, set, length-set}
 use lib.Seq.{sets}
 use Rattle.buffer.proofs.Puts.{put-fits}
 use Rattle.buffer.proofs.Stretches.{room}
-use Rattle.varint.specs.Varint.{spelling, varint}
+use Rattle.varint.specs.Varint.{continued, spelling, varint}
 use Rattle.varint.proofs.Laws.{bound, spelling-end, spelling-more}
 use Rattle.varint.proofs.write.Statement.{statement}
 use Rattle.varint.proofs.write.Tie as tie
-use Rattle.varint.proofs.write.Reads as reads
-use Rattle.varint.proofs.write.Lts as lts
 
 abbrev Inv-loop : tie.InvT-loop
 Inv-loop out₀ at v rest₀ i₀ out rest i =
@@ -23,66 +20,59 @@ Inv-loop out₀ at v rest₀ i₀ out rest i =
 abbrev μ-loop : tie.MeasureT-loop
 μ-loop out₀ at v rest₀ i₀ out rest i = rest
 
--- src/lib.rt:72:5
 loop-holds : tie.Need-loop-holds Inv-loop μ-loop
 unfolding varint
 loop-holds c = (9, omega arith, refl, refl, refl, room _ _ _ refl (c .pre))
 
--- src/lib.rt:73:19
 add-out : tie.Need-add-out Inv-loop μ-loop
 add-out c = omega arith
 
--- src/lib.rt:73:18
 cast-out : tie.Need-cast-out Inv-loop μ-loop
 cast-out c = omega arith
 
--- src/lib.rt:73:9
 slice-write-out : tie.Need-slice-write-out Inv-loop μ-loop
 slice-write-out c =
     let l = c .before .loop in
     let m = spelling-more (l .inv .0) (l .rest) (c .loop-test .taken) (l .inv .1) in
     omega (arith, ap length (m .3), l .inv .2, l .inv .4, l .inv .5)
 
--- src/lib.rt:75:9
 add-i : tie.Need-add-i Inv-loop μ-loop
 add-i c = omega arith
 
--- src/lib.rt:72:5
 loop-less : tie.Need-loop-less Inv-loop μ-loop
 loop-less c = omega arith
 
--- src/lib.rt:72:5
 loop-again : tie.Need-loop-again Inv-loop μ-loop
+unfolding continued
 loop-again c =
     let l = c .before .loop in
-    let m = spelling-more (l .inv .0) (l .rest) (c .loop-test .taken) (l .inv .1) in
-    (m .0, m .2, simp length-set (l .inv .2),
+    let m = spelling-more (l .inv .0) (l .rest) (c .loop-test .taken) (l .inv .1) in (
+      m .0,
+      m .2,
+      simp length-set (l .inv .2),
       l .inv .3 ∙ ap (sets (l .out) (l .i)) (m .3) ∙ ap (λ (k : ℕ). sets (set (l .out) (l .i) (l .rest % 128 + 128)) k (spelling (m .0) (l .rest / 128))) (sym (add-one (l .i))),
-      omega (arith, ap length (m .3), l .inv .4), l .inv .5)
+      omega (arith, ap length (m .3), l .inv .4),
+      l .inv .5,
+    )
 
--- src/lib.rt:77:14
 cast-out-2 : tie.Need-cast-out-2 Inv-loop μ-loop
 cast-out-2 c = omega arith
 
--- src/lib.rt:77:5
 slice-write-out-2 : tie.Need-slice-write-out-2 Inv-loop μ-loop
 slice-write-out-2 c =
     let l = c .before .loop in
     let e = spelling-end (l .inv .0) (l .rest) (c .loop-test .left) in
     omega (arith, ap length e, l .inv .2, l .inv .4, l .inv .5)
 
--- src/lib.rt:78:5
 add-result : tie.Need-add-result Inv-loop μ-loop
 add-result c =
     let l = c .before .loop in
     let e = spelling-end (l .inv .0) (l .rest) (c .loop-test .left) in
     omega (arith, ap length e, l .inv .2, l .inv .4, l .inv .5)
 
--- src/lib.rt:61:1
 same-length : tie.Need-same-length Inv-loop μ-loop
 same-length c = simp length-set (c .before .loop .inv .2)
 
--- src/lib.rt:61:1
 returns : tie.Need-returns Inv-loop μ-loop
 returns c =
     let l = c .before .loop in
@@ -91,7 +81,7 @@ returns c =
     let p = put-fits (a .out .now) (a .at) (varint (a .v)) (c .before .before .pre) in
     record {
       bytes = sym (l .inv .3 ∙ ap (sets (l .out) (l .i)) e) ∙ p .bytes;
-      position = omega (arith, ap length e, l .inv .4) ∙ p .position
+      position = omega (arith, ap length e, l .inv .4) ∙ p .position;
     }
 
 pub write-spec : {M : Type 1} → statement M

@@ -1,50 +1,62 @@
+-- `Cursor::find` meets its contract: what is found from where the loop stands is what is found from the start.
+use Prim.Native.Nat.{_-_}
+use mathlib.Core.Path.{_≡_, refl, sym, _∙_}
+use native.Mathlib.Omega.{arith}
+use lib.ListN.{length}
+use borrow.Author.Needs.{needs}
+use Rattle.tlv.specs.Record.{foundFrom}
+use Rattle.tlv.proofs.Laws.{record-inside, found-end, found-unreadable, found-here, found-next}
 use Rattle.tlv.proofs.Cursor.find.Statement.{statement}
 use Rattle.tlv.proofs.Cursor.find.Tie as tie
-use Rattle.tlv.proofs.Cursor.find.Reads as reads
-use Rattle.tlv.proofs.Cursor.find.Lts as lts
-use Rattle.tlv.proofs.Cursor.take.Reads as take-reads
 
 abbrev Inv-loop : tie.InvT-loop
-Inv-loop s kind cursor₀ cursor = ?
+Inv-loop s kind cursor₀ cursor = foundFrom s (cursor₀ .at) kind ≡ foundFrom s (cursor .at) kind
 
 abbrev μ-loop : tie.MeasureT-loop
-μ-loop s kind cursor₀ cursor = ?
+μ-loop s kind cursor₀ cursor = length s - cursor .at
 
--- src/lib.rt:63:9
 loop-holds : tie.Need-loop-holds Inv-loop μ-loop
-loop-holds c = ?
+loop-holds c = refl
 
--- src/lib.rt:64:41
 take-requires : tie.Need-take-requires Inv-loop μ-loop
-take-requires c κs = ?
+take-requires c κs = search needs
 
--- src/lib.rt:64:31
 enum-known-record : tie.Need-enum-known-record Inv-loop μ-loop
-enum-known-record c = ?
+enum-known-record c = search needs
 
--- src/lib.rt:65:17
 enum-told : tie.Need-enum-told Inv-loop μ-loop
-enum-told c = ?
+enum-told c = search needs
 
--- src/lib.rt:65:17
 returns : tie.Need-returns Inv-loop μ-loop
-returns c = ?
+returns c =
+    let l = c .before .before .before .before .before .loop in
+    let a = c .before .before .before .before .before .before .before .args in
+    sym (l .inv ∙ found-unreadable (a .s .now) (l .cursor .at) (a .kind) (c .before .before .before .if1 .taken) (sym (c .before .before .take .ensures) ∙ c .enum-told .given .1))
 
--- src/lib.rt:68:17
 returns-2 : tie.Need-returns-2 Inv-loop μ-loop
-returns-2 c = ?
+returns-2 c =
+    let l = c .before .before .before .before .before .before .before .before .loop in
+    let a = c .before .before .before .before .before .before .before .before .before .before .args in
+    let r = c .before .before .before .«record» .given .0 .0 in
+    sym (l .inv ∙ found-here (a .s .now) (l .cursor .at) (a .kind) r (sym (c .before .before .before .before .before .take .ensures) ∙ c .before .before .before .«record» .given .1) (c .if2 .taken))
 
--- src/lib.rt:63:9
 loop-less : tie.Need-loop-less Inv-loop μ-loop
-loop-less c = ?
+loop-less c =
+    let l = c .before .before .before .before .before .before .before .before .loop in
+    let i = record-inside (c .before .before .before .before .before .before .before .before .before .before .args .s .now) (l .cursor .at) _ (sym (c .before .before .before .before .before .take .ensures) ∙ c .before .before .before .«record» .given .1) in
+    omega arith
 
--- src/lib.rt:63:9
 loop-again : tie.Need-loop-again Inv-loop μ-loop
-loop-again c = ?
+loop-again c =
+    let l = c .before .before .before .before .before .before .before .before .loop in
+    let a = c .before .before .before .before .before .before .before .before .before .before .args in
+    l .inv ∙ found-next (a .s .now) (l .cursor .at) (a .kind) _ (sym (c .before .before .before .before .before .take .ensures) ∙ c .before .before .before .«record» .given .1) (c .if2 .left)
 
--- src/lib.rt:59:5
 returns-3 : tie.Need-returns-3 Inv-loop μ-loop
-returns-3 c = ?
+returns-3 c =
+    let l = c .before .before .loop in
+    let a = c .before .before .before .before .args in
+    sym (l .inv ∙ found-end (a .s .now) (l .cursor .at) (a .kind) (c .if1 .left))
 
 pub find-spec : {M : Type 1} → statement M
 find-spec =
