@@ -1,0 +1,208 @@
+// Prints what is read of the CoAP datagrams on standard input, one record each: the frame, its options, and of a
+// request whether step a refuses it, its path and the ids that its query asks for.
+//
+// The input was made by a Python script: the messages of RFC 7252's appendixes A and B; deltas and lengths on both
+// sides of each border; tokens of 0 to 15 bytes; options and markers that are damaged or cut short; other versions
+// and codes; paths and queries, good and bad. The output to meet was not taken from this program: it was written by a
+// reader in Python, made from RFC 7252, section 3, and document 01 alone. The last record is cut short.
+use coap::CoapOption;
+use coap::Datagram;
+use coap::Frame;
+use coap::Next;
+use coap::Path;
+use coap::Query;
+use decimal::Ids;
+use libc::STDIN_FILENO;
+use libc::STDOUT_FILENO;
+use tlv::Cursor;
+use tlv::Taken;
+
+fn say(text: &[u8]) {
+    io::write_all(STDOUT_FILENO, text);
+}
+
+// A blank and a number.
+fn say_number(n: u64) {
+    say(b" ");
+    io::print_decimal(STDOUT_FILENO, n);
+}
+
+// A blank and bytes in hex.
+fn say_bytes(b: &[u8]) {
+    say(b" ");
+    if b.len() == 0 {
+        say(b"-");
+    }
+    let mut i = 0;
+    while i < b.len() {
+        io::print_hex(STDOUT_FILENO, buffer::wide(b[i]), 2);
+        i += 1;
+    }
+}
+
+// A blank and a code: class, point, and two digits of detail.
+fn say_code(code: u8) {
+    let c = buffer::wide(code);
+    say_number(c / 32);
+    say(b".");
+    io::print_decimal(STDOUT_FILENO, c % 32 / 10);
+    io::print_decimal(STDOUT_FILENO, c % 32 % 10);
+}
+
+fn print_option(s: &[u8], o: CoapOption) {
+    let start = o.start;
+    let end = o.end;
+    if start <= end {
+        if end <= s.len() {
+            say(b"option");
+            say_number(o.number);
+            say_bytes(&s[start..end]);
+            say(b"\n");
+        }
+    }
+}
+
+fn print_options(s: &[u8], from: usize) {
+    let mut at = from;
+    let mut before = 0;
+    loop {
+        let Next::Option(o) = coap::option_at(s, at, before) else {
+            return;
+        };
+        print_option(s, o);
+        at = o.end;
+        before = o.number;
+    }
+}
+
+fn print_path(path: Path) {
+    match path {
+        Path::All => {
+            say(b" path all");
+        }
+        Path::Record(id) => {
+            say(b" path record");
+            say_number(id as u64);
+        }
+        Path::Other => {
+            say(b" path other");
+        }
+    }
+}
+
+fn print_ids(ids: Ids) {
+    let list = ids.list;
+    let n = ids.count;
+    if n == 0 {
+        say(b" bad");
+    }
+    let mut i = 0;
+    while i < n {
+        if 32 <= i {
+            return;
+        }
+        say_number(list[i] as u64);
+        i += 1;
+    }
+}
+
+fn print_query(s: &[u8], query: Query) {
+    say(b" query");
+    match query {
+        Query::Nothing => {
+            say(b" none");
+        }
+        Query::One(start, end) => {
+            if start <= end {
+                if end <= s.len() {
+                    print_ids(coap::asked_ids(&s[start..end]));
+                }
+            }
+        }
+        Query::Several => {
+            say(b" several");
+        }
+    }
+}
+
+fn print_request(s: &[u8], from: usize) {
+    if coap::refused(s, from) {
+        say(b"request refused");
+    } else {
+        say(b"request taken");
+    }
+    print_path(coap::request_path(s, from));
+    print_query(s, coap::request_query(s, from));
+    say(b"\n");
+}
+
+// A request has a code of 0.01 to 0.31.
+fn is_request(code: u8) -> bool {
+    if code == 0 {
+        return false;
+    }
+    code < 32
+}
+
+fn print_frame(s: &[u8], f: Frame) {
+    say(b"frame");
+    say_number(f.kind as u64);
+    say_code(f.code);
+    say_number(f.id as u64);
+    let payload = f.payload;
+    if payload <= s.len() {
+        say_bytes(&s[payload..]);
+    }
+    say(b"\n");
+    print_options(s, f.options);
+    if is_request(f.code) {
+        print_request(s, f.options);
+    }
+}
+
+fn print_datagram(s: &[u8]) {
+    match coap::read(s) {
+        Datagram::Frame(f) => {
+            print_frame(s, f);
+        }
+        Datagram::Malformed(kind, id) => {
+            say(b"malformed");
+            say_number(kind as u64);
+            say_number(id as u64);
+            say(b"\n");
+        }
+        Datagram::Foreign => {
+            say(b"foreign\n");
+        }
+    }
+}
+
+fn print_record(s: &[u8], start: usize, end: usize, kind: u64) {
+    if start <= end {
+        if end <= s.len() {
+            say(b"record");
+            say_number(kind);
+            say_number((end - start) as u64);
+            say(b"\n");
+            print_datagram(&s[start..end]);
+        }
+    }
+}
+
+fn print_records(s: &[u8]) {
+    let mut cursor = Cursor { at: 0 };
+    while cursor.at < s.len() {
+        let Taken::Record(r) = cursor.take(s) else {
+            say(b"unreadable\n");
+            return;
+        };
+        print_record(s, r.start, r.end, r.kind);
+        cursor = Cursor { at: r.end };
+    }
+}
+
+fn main() {
+    let mut space = [0u8; 4096];
+    let n = io::read_full(STDIN_FILENO, &mut space);
+    print_records(&space[..n]);
+}
