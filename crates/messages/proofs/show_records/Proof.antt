@@ -1,0 +1,68 @@
+-- `messages::show_records` is safe and ends: a record ends behind its start.
+use Prim.Native.Nat.{_-_}
+use mathlib.Core.Path.{sym, _∙_}
+use native.Mathlib.Omega.{arith}
+use lib.ListN.{length}
+use borrow.Author.Needs.{needs}
+use Rattle.tlv.proofs.Laws.{record-inside}
+use Rattle.messages.proofs.show_records.Statement.{statement}
+use Rattle.messages.proofs.show_records.Tie as tie
+
+abbrev Inv-loop : tie.InvT-loop
+Inv-loop s cursor₀ t4 cursor = Unit {0}
+
+abbrev μ-loop : tie.MeasureT-loop
+μ-loop s cursor₀ t4 cursor = length s - cursor .at
+
+loop-holds : tie.Need-loop-holds Inv-loop μ-loop
+loop-holds c = search needs
+
+take-requires : tie.Need-take-requires Inv-loop μ-loop
+take-requires c κs = search needs
+
+enum-known-r : tie.Need-enum-known-r Inv-loop μ-loop
+enum-known-r c = search needs
+
+enum-told : tie.Need-enum-told Inv-loop μ-loop
+enum-told c = search needs
+
+slice-aggregate-word : tie.Need-slice-aggregate-word Inv-loop μ-loop
+slice-aggregate-word c = search needs
+
+word-requires : tie.Need-word-requires Inv-loop μ-loop
+word-requires c κs = search needs
+
+returns : tie.Need-returns Inv-loop μ-loop
+returns c = search needs
+
+show-part-requires : tie.Need-show-part-requires Inv-loop μ-loop
+show-part-requires c κs = search needs
+
+loop-less : tie.Need-loop-less Inv-loop μ-loop
+loop-less c =
+    let l = c .before .before .before .before .before .before .before .loop in
+    omega (arith, c .before .before .before .before .before .if1 .taken, record-inside _ (l .cursor .at) _ (sym (c .before .before .before .before .take .ensures) ∙ c .before .before .r .given .1))
+
+loop-again : tie.Need-loop-again Inv-loop μ-loop
+loop-again c = search needs
+
+returns-2 : tie.Need-returns-2 Inv-loop μ-loop
+returns-2 c = search needs
+
+pub show-records-spec : {M : Type 1} → statement M
+show-records-spec =
+    tie.close
+    (tie.spec
+    Inv-loop
+    μ-loop
+    loop-holds
+    take-requires
+    enum-known-r
+    enum-told
+    slice-aggregate-word
+    word-requires
+    returns
+    show-part-requires
+    loop-less
+    loop-again
+    returns-2)

@@ -1,0 +1,205 @@
+// One line for what a reader says, and one for what a writer makes.
+use decimal::Ids;
+use libc::STDOUT_FILENO;
+use protobuf::Bytes;
+use protobuf::Flag;
+use protobuf::Number;
+use schedule::Interval;
+use schedule::Moment;
+
+pub fn word(s: &[u8]) {
+    io::write_all(STDOUT_FILENO, s);
+}
+
+pub fn number(n: u64) {
+    io::print_decimal(STDOUT_FILENO, n);
+}
+
+pub fn hex(s: &[u8]) {
+    if s.len() == 0 {
+        word(b"empty");
+    }
+    let mut i = 0;
+    while i < s.len() {
+        io::print_hex(STDOUT_FILENO, buffer::wide(s[i]), 2);
+        i += 1;
+    }
+}
+
+fn readable(b: bool) {
+    if b {
+        word(b"readable");
+    } else {
+        word(b"unreadable");
+    }
+}
+
+fn bytes(v: &[u8], place: Bytes) {
+    word(b" ");
+    let Bytes::At(start, end) = place else {
+        word(b"-");
+        return;
+    };
+    if start <= end {
+        if end <= v.len() {
+            hex(&v[start..end]);
+        }
+    }
+}
+
+fn given(n: Number) {
+    word(b" ");
+    let Number::Given(x) = n else {
+        word(b"-");
+        return;
+    };
+    number(x as u64);
+}
+
+fn flag(f: Flag) {
+    word(b" ");
+    let Flag::Given(b) = f else {
+        word(b"-");
+        return;
+    };
+    if b {
+        word(b"true");
+    } else {
+        word(b"false");
+    }
+}
+
+fn moment(m: Moment) {
+    word(b" ");
+    let Moment::At(p) = m else {
+        word(b"-");
+        return;
+    };
+    number(p.0 as u64);
+}
+
+fn interval(i: Interval) {
+    word(b" ");
+    let Interval::Every(l) = i else {
+        word(b"-");
+        return;
+    };
+    number(l.0 as u64);
+}
+
+fn id(n: u32) {
+    word(b" ");
+    number(n as u64);
+}
+
+fn ids(l: Ids) {
+    word(b" [");
+    let list = l.list;
+    let mut i = 0;
+    while i < 32 {
+        if l.count <= i {
+            word(b"]");
+            return;
+        }
+        id(list[i]);
+        i += 1;
+    }
+    word(b"]");
+}
+
+pub fn redirect(v: &[u8]) {
+    let m = csmp::read_redirect(v);
+    readable(m.readable);
+    let url = m.url;
+    bytes(v, url);
+    let immediate = m.immediate;
+    flag(immediate);
+}
+
+pub fn session(v: &[u8]) {
+    let m = csmp::read_session(v);
+    readable(m.readable);
+    let id = m.id;
+    bytes(v, id);
+}
+
+pub fn report(v: &[u8]) {
+    let m = csmp::read_report(v);
+    readable(m.readable);
+    let every = m.interval;
+    interval(every);
+    let first = m.ids;
+    ids(first);
+    let beat = m.heartbeat;
+    interval(beat);
+    let second = m.heartbeat_ids;
+    ids(second);
+}
+
+pub fn group(v: &[u8]) {
+    let m = csmp::read_group(v);
+    readable(m.readable);
+    let kind = m.kind;
+    given(kind);
+    let id = m.id;
+    given(id);
+}
+
+pub fn transfer(v: &[u8]) {
+    let m = csmp::read_transfer(v);
+    readable(m.readable);
+    let hw_id = m.hw_id;
+    bytes(v, hw_id);
+    let vendor = m.vendor_hw_id;
+    bytes(v, vendor);
+    let file_hash = m.hash;
+    bytes(v, file_hash);
+    let name = m.name;
+    bytes(v, name);
+    let version = m.version;
+    bytes(v, version);
+    let size = m.size;
+    given(size);
+    let block_size = m.block_size;
+    given(block_size);
+}
+
+pub fn block(v: &[u8]) {
+    let m = csmp::read_block(v);
+    readable(m.readable);
+    let file_hash = m.hash;
+    bytes(v, file_hash);
+    let n = m.number;
+    given(n);
+    let data = m.data;
+    bytes(v, data);
+}
+
+pub fn load(v: &[u8]) {
+    let m = csmp::read_load(v);
+    readable(m.readable);
+    let file_hash = m.hash;
+    bytes(v, file_hash);
+    let time = m.time;
+    moment(time);
+}
+
+pub fn hash(v: &[u8]) {
+    let m = csmp::read_hash(v);
+    readable(m.readable);
+    let file_hash = m.hash;
+    bytes(v, file_hash);
+}
+
+pub fn validity(v: &[u8]) {
+    let m = csmp::read_validity(v);
+    readable(m.readable);
+    let from = m.not_before;
+    moment(from);
+    let to = m.not_after;
+    moment(to);
+}
+
+pub fn signature(v: &[u8]) {
+    readable(csmp::read_signature(v));
+}
