@@ -1,0 +1,53 @@
+-- `firmware::place::version_at` meets its contract: the bytes are copied to the front of zeros.
+use mathlib.Core.Path.{sym, ap}
+use Rattle.firmware.specs.Place.{versionAt}
+use borrow.Author.Needs.{needs}
+use Rattle.firmware.proofs.place.version_at.Statement.{statement}
+use Rattle.firmware.proofs.place.version_at.Tie as tie
+
+enum-known-place : tie.Need-enum-known-place
+enum-known-place c = search needs
+
+enum-told : tie.Need-enum-told
+enum-told c = search needs
+
+returns : tie.Need-returns
+unfolding versionAt
+returns c = sym (ap (versionAt _) (c .enum-told .given .1))
+
+slice-aggregate-copy : tie.Need-slice-aggregate-copy
+slice-aggregate-copy c = search needs
+
+sub-copy : tie.Need-sub-copy
+sub-copy c = rw (c .before .before .place .given .1) at (c .before .before .before .before .before .pre) .0
+
+part-copy-start : tie.Need-part-copy-start
+part-copy-start c = rw (c .before .before .place .given .1) at (c .before .before .before .before .before .pre) .0
+
+part-copy-end : tie.Need-part-copy-end
+part-copy-end c = rw (c .before .before .place .given .1) at (c .before .before .before .before .before .pre) .1
+
+copy-requires : tie.Need-copy-requires
+copy-requires c κs = search needs
+
+sub-t11 : tie.Need-sub-t11
+sub-t11 c = rw (c .before .before .before .before .before .place .given .1) at (c .before .before .before .before .before .before .before .before .pre) .0
+
+returns-2 : tie.Need-returns-2
+unfolding versionAt
+returns-2 c = rw (c .before .copy .ensures) (sym (ap (versionAt _) (c .before .before .before .before .before .place .given .1)))
+
+pub version-at-spec : {M : Type 1} → statement M
+version-at-spec =
+    tie.close
+    (tie.spec
+    enum-known-place
+    enum-told
+    returns
+    slice-aggregate-copy
+    sub-copy
+    part-copy-start
+    part-copy-end
+    copy-requires
+    sub-t11
+    returns-2)

@@ -1,0 +1,102 @@
+// Bytes of a value, taken out where the state will hold them.
+use csmp::Hash;
+use csmp::Name;
+use csmp::Version;
+use protobuf::Bytes;
+ghost use mathlib.Core.Path.{_≡_};
+ghost use Rattle.transfer.specs.Block.{Inside};
+ghost use Rattle.firmware.specs.Place.{isHash, hashAt, hashGiven, nameAt, versionAt, isText};
+ghost use Rattle.buffer.specs.Same.{sameBytes};
+
+// Whether bytes are there and are 32: a hash.
+pub fn is_hash(place: Bytes) -> bool
+    ensures { λ r. ⌜ r ≡ isHash place ⌝ }
+{
+    let Bytes::At(start, end) = place else {
+        return false;
+    };
+    if end < start {
+        return false;
+    }
+    end - start == 32
+}
+
+// The bytes, at the front of zeros.
+pub fn hash_at(v: &[u8], place: Bytes) -> [u8; 32]
+    requires { ⌜ Inside (now v) place ⌝ }
+    ensures { λ r. ⌜ r ≡ hashAt (now (v .entry)) place ⌝ }
+{
+    let mut bytes = [0u8; 32];
+    let Bytes::At(start, end) = place else {
+        return bytes;
+    };
+    buffer::copy(&mut bytes, &v[start..end]);
+    bytes
+}
+
+// The hash that a response echoes: one of 32 bytes, else none.
+pub fn hash_given(v: &[u8], place: Bytes) -> Hash
+    requires { ⌜ Inside (now v) place ⌝ }
+    ensures { λ r. ⌜ r ≡ hashGiven (now (v .entry)) place ⌝ }
+{
+    let given = is_hash(place);
+    let bytes = hash_at(v, place);
+    Hash { given, bytes }
+}
+
+pub fn name_at(v: &[u8], place: Bytes) -> Name
+    requires { ⌜ Inside (now v) place ⌝ }
+    ensures { λ r. ⌜ r ≡ nameAt (now (v .entry)) place ⌝ }
+{
+    let mut bytes = [0u8; 128];
+    let Bytes::At(start, end) = place else {
+        return Name {
+            given: false,
+            bytes,
+            len: 0,
+        };
+    };
+    buffer::copy(&mut bytes, &v[start..end]);
+    Name {
+        given: true,
+        bytes,
+        len: end - start,
+    }
+}
+
+pub fn version_at(v: &[u8], place: Bytes) -> Version
+    requires { ⌜ Inside (now v) place ⌝ }
+    ensures { λ r. ⌜ r ≡ versionAt (now (v .entry)) place ⌝ }
+{
+    let mut bytes = [0u8; 32];
+    let Bytes::At(start, end) = place else {
+        return Version {
+            given: false,
+            bytes,
+            len: 0,
+        };
+    };
+    buffer::copy(&mut bytes, &v[start..end]);
+    Version {
+        given: true,
+        bytes,
+        len: end - start,
+    }
+}
+
+// Whether bytes of a value, if they are there, are a text; `absent` is the answer where they are not.
+pub fn is_text(text: &[u8], v: &[u8], place: Bytes, absent: bool) -> bool
+    requires { ⌜ Inside (now v) place ⌝ }
+    ensures { λ r. ⌜ r ≡ isText (now (text .entry)) (now (v .entry)) absent place ⌝ }
+{
+    let Bytes::At(start, end) = place else {
+        return absent;
+    };
+    buffer::same(text, &v[start..end])
+}
+
+pub fn same_hash(a: [u8; 32], b: [u8; 32]) -> bool
+    ensures { λ r. ⌜ r ≡ sameBytes a b ⌝ }
+{
+    buffer::same(&a, &b)
+}

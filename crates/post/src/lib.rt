@@ -1,0 +1,133 @@
+// Judging a posted payload: steps e to i, before any record runs.
+mod value;
+
+use schedule::Point;
+use state::Groups;
+use tlv::Cursor;
+use tlv::Taken;
+ghost use mathlib.Core.Path.{_≡_};
+ghost use Prim.Native.Nat.{_≤_};
+ghost use Rattle.post.specs.Judge.{noted, sealed, lookedAt, badlySigned, judged};
+
+// What a walk over a payload has seen: how many records, whether their values can be read, whether one is a
+// Signature, whether one's validity does not hold now, whether there are GroupMatches and one names a held group,
+// whether one may not be posted.
+pub struct Seen {
+    pub records: usize,
+    pub readable: bool,
+    pub signed: bool,
+    pub expired: bool,
+    pub grouped: bool,
+    pub matched: bool,
+    pub forbidden: bool,
+}
+
+// An error to answer, or that the records may run.
+pub enum Judgement {
+    Error(u8),
+    Run,
+}
+
+// One record more.
+fn note(seen: Seen, kind: u64, v: &[u8], groups: Groups, time: Point) -> Seen
+    requires { ⌜ seen .records ≤ 1280 ⌝ }
+    ensures { λ r. ⌜ r ≡ noted groups time seen kind (now (v .entry)) ⌝ }
+{
+    let readable = value::both(seen.readable, value::is_readable(kind, v));
+    let signed = value::either(seen.signed, kind == 77);
+    let expired = value::either(seen.expired, value::is_expired(kind, v, time));
+    let grouped = value::either(seen.grouped, kind == 57);
+    let matched = value::either(seen.matched, value::is_match(kind, v, groups));
+    let forbidden = value::either(seen.forbidden, value::is_forbidden(kind));
+    Seen {
+        records: seen.records + 1,
+        readable,
+        signed,
+        expired,
+        grouped,
+        matched,
+        forbidden,
+    }
+}
+
+// The walk's end: a record that can't be read makes the payload unreadable.
+fn seal(seen: Seen, whole: bool) -> Seen
+    ensures { λ r. ⌜ r ≡ sealed whole seen ⌝ }
+{
+    let mut last = seen;
+    last.readable = value::both(whole, seen.readable);
+    last
+}
+
+// What there is to see in a payload of at most 1,280 bytes; a longer one is not looked at.
+pub fn look(payload: &[u8], groups: Groups, time: Point) -> Seen
+    ensures { λ r. ⌜ r ≡ lookedAt groups time (now (payload .entry)) ⌝ }
+{
+    let mut seen = Seen {
+        records: 0,
+        readable: true,
+        signed: false,
+        expired: false,
+        grouped: false,
+        matched: false,
+        forbidden: false,
+    };
+    if 1280 < payload.len() {
+        return seal(seen, false);
+    }
+    let mut cursor = Cursor { at: 0 };
+    while cursor.at < payload.len() {
+        let Taken::Record(r) = cursor.take(payload) else {
+            return seal(seen, false);
+        };
+        let start = r.start;
+        let end = r.end;
+        seen = note(seen, r.kind, &payload[start..end], groups, time);
+        cursor = Cursor { at: end };
+    }
+    seal(seen, true)
+}
+
+// Step f: a bad verdict, or none good where signatures are required. Without a Signature the verdict counts as none.
+pub fn badly_signed(signed: bool, verdict: u8, required: bool) -> bool
+    ensures { λ r. ⌜ r ≡ badlySigned signed verdict required ⌝ }
+{
+    if !signed {
+        return required;
+    }
+    if verdict == 2 {
+        return true;
+    }
+    if verdict == 1 {
+        return false;
+    }
+    required
+}
+
+// Steps e to i, in this order.
+pub fn judge(seen: Seen, verdict: u8, required: bool) -> Judgement
+    ensures { λ r. ⌜ r ≡ judged seen verdict required ⌝ }
+{
+    if !seen.readable {
+        return Judgement::Error(128);
+    }
+    if seen.records == 0 {
+        return Judgement::Error(128);
+    }
+    if 24 < seen.records {
+        return Judgement::Error(128);
+    }
+    if badly_signed(seen.signed, verdict, required) {
+        return Judgement::Error(129);
+    }
+    if seen.expired {
+        return Judgement::Error(129);
+    }
+    if value::unmatched(seen.grouped, seen.matched) {
+        return Judgement::Error(131);
+    }
+    if seen.forbidden {
+        return Judgement::Error(131);
+    }
+    Judgement::Run
+}

@@ -1,0 +1,16 @@
+-- `state::setup::none_assigned` meets its contract.
+use borrow.Author.Needs.{needs}
+use Rattle.state.proofs.setup.none_assigned.Statement.{statement}
+use Rattle.state.proofs.setup.none_assigned.Tie as tie
+
+no-ids-requires : tie.Need-no-ids-requires
+no-ids-requires c κs = search needs
+
+no-ids-requires-2 : tie.Need-no-ids-requires-2
+no-ids-requires-2 c κs = search needs
+
+returns : tie.Need-returns
+returns c = rw (c .no-ids2 .ensures, c .before .no-ids .ensures)
+
+pub none-assigned-spec : {M : Type 1} → statement M
+none-assigned-spec = tie.close (tie.spec no-ids-requires no-ids-requires-2 returns)

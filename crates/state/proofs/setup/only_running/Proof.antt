@@ -1,0 +1,13 @@
+-- `state::setup::only_running` meets its contract.
+use borrow.Author.Needs.{needs}
+use Rattle.state.proofs.setup.only_running.Statement.{statement}
+use Rattle.state.proofs.setup.only_running.Tie as tie
+
+no-image-requires : tie.Need-no-image-requires
+no-image-requires c κs = search needs
+
+returns : tie.Need-returns
+returns c = rw (c .no-image .ensures)
+
+pub only-running-spec : {M : Type 1} → statement M
+only-running-spec = tie.close (tie.spec no-image-requires returns)

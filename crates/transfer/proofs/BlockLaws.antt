@@ -1,0 +1,95 @@
+-- Laws of taking blocks: what each step of the code says of the definitions.
+use Prim.Native.Nat.{ℕ, _*_, _-_, _≤_, _<_}
+use mathlib.Core.Path.{_≡_, refl, sym, ap, _∙_}
+use mathlib.Core.List.{List}
+use mathlib.Core.Bool.{Bool, true, false}
+use borrow.Author.Tests.{lt-ltb, le-ltb}
+use lib.Dec.{eqb}
+use lib.ListN.{length, take, drop}
+use lib.Seq.{sets}
+use Rattle.buffer.specs.Pick.{pick}
+use Rattle.csmp.specs.Read.{blockOf}
+use Rattle.csmp.specs.declared.Block.{Block}
+use Rattle.csmp.specs.declared.Image.{Image}
+use Rattle.protobuf.specs.Find.{bytesIn}
+use Rattle.protobuf.specs.declared.Bytes.{Bytes}
+use Rattle.protobuf.specs.declared.Bytes.the-variants.{At, Absent}
+use Rattle.protobuf.specs.declared.Number.the-variants.{Given, Absent as NoNumber}
+use Rattle.protobuf.proofs.FindLaws.{bytes-within}
+use Rattle.transfer.specs.Bitmap.{held, marked, withBitmap}
+use Rattle.transfer.specs.Block.{Inside, isHash, fitsAt, Flash, putBlock, offered, takeBlock, Left}
+use Rattle.transfer.specs.Blocks.{blocks, blockLength}
+
+-- a number beyond the blocks does not fit, and another fits by its length
+module _ (i : Image) (n len : ℕ) where
+  pub fits-beyond : blocks (i .size) (i .«block_size») ≤ n → fitsAt i n len ≡ false
+  unfolding fitsAt
+  fits-beyond h = rw (le-ltb n (blocks (i .size) (i .«block_size»)) h)
+
+  pub fits-length : n < blocks (i .size) (i .«block_size») → fitsAt i n len ≡ eqb len (blockLength (i .size) (i .«block_size») n)
+  unfolding fitsAt
+  fits-length h = rw (lt-ltb n (blocks (i .size) (i .«block_size»)) h)
+
+-- what is left is what a definition says
+pub left-by : {f : Flash} {i : Image} {bs : List ℕ} → f ≡ record { image = i; bytes = bs } → Left f i bs
+left-by e = record { same-image = sym (ap (λ (x : Flash). x .image) e); same-bytes = sym (ap (λ (x : Flash). x .bytes) e) }
+
+-- a block is put where it fits and is missing
+module _ (i : Image) (bs : List ℕ) (n : ℕ) (d : List ℕ) where
+  pub put-unfit : fitsAt i n (length d) ≡ false → putBlock i bs n d ≡ record { image = i; bytes = bs }
+  unfolding putBlock
+  put-unfit h = rw h
+
+  pub put-held : held (i .bitmap) n ≡ true → putBlock i bs n d ≡ record { image = i; bytes = bs }
+  unfolding putBlock
+  put-held h = go (fitsAt i n (length d))
+    where
+      f : Flash
+      f = record { image = i; bytes = bs }
+
+      go : (t : Bool) → pick t (pick (held (i .bitmap) n) f (record { image = withBitmap i (marked (i .bitmap) n); bytes = sets bs (n * i .«block_size») d })) f ≡ f
+      go true = rw h
+      go false = refl
+
+  pub put-new : fitsAt i n (length d) ≡ true → held (i .bitmap) n ≡ false
+      → putBlock i bs n d ≡ record { image = withBitmap i (marked (i .bitmap) n); bytes = sets bs (n * i .«block_size») d }
+  unfolding putBlock
+  put-new h g = rw (h, g)
+
+  pub left-new : {map after : List ℕ} → fitsAt i n (length d) ≡ true → held (i .bitmap) n ≡ false → map ≡ marked (i .bitmap) n
+      → after ≡ sets bs (n * i .«block_size») d → Left (putBlock i bs n d) (withBitmap i map) after
+  left-new h g e f = left-by (put-new h g ∙ rw (e, f))
+
+-- bytes that are found lie in the value
+inside : (v : List ℕ) (n : ℕ) (p : Bytes) → bytesIn v n ≡ p → Inside v p
+inside v n (At a e) h = bytes-within v n a e h
+inside v n Absent h = tt
+
+module _ (v : List ℕ) (b : Block) (e : b ≡ blockOf v) where
+  pub hash-inside : Inside v (b .hash)
+  unfolding blockOf
+  hash-inside = inside v 1 (b .hash) (sym (ap (λ (x : Block). x .hash) e))
+
+  pub data-inside : {start stop : ℕ} → b .«data» ≡ At start stop → (start ≤ stop) × (stop ≤ length v)
+  unfolding blockOf
+  data-inside {start} {stop} h = bytes-within v 4 start stop (sym (ap (λ (x : Block). x .«data») e) ∙ h)
+
+  -- an offer is taken by its hash, its number and its bytes
+  module _ (i : Image) (bs : List ℕ) where
+    pub take-other : isHash (i .hash) v (b .hash) ≡ false → takeBlock i bs v ≡ record { image = i; bytes = bs }
+    unfolding takeBlock offered
+    take-other h = rw (← e, h)
+
+    pub take-numberless : isHash (i .hash) v (b .hash) ≡ true → b .number ≡ NoNumber → takeBlock i bs v ≡ record { image = i; bytes = bs }
+    unfolding takeBlock offered
+    take-numberless h g = rw (← e, h, g)
+
+    pub take-dataless : {n : ℕ} → isHash (i .hash) v (b .hash) ≡ true → b .number ≡ Given n → b .«data» ≡ Absent
+        → takeBlock i bs v ≡ record { image = i; bytes = bs }
+    unfolding takeBlock offered
+    take-dataless h g k = rw (← e, h, g, k)
+
+    pub take-this : {n start stop : ℕ} → isHash (i .hash) v (b .hash) ≡ true → b .number ≡ Given n → b .«data» ≡ At start stop
+        → takeBlock i bs v ≡ putBlock i bs n (take (stop - start) (drop start v))
+    unfolding takeBlock offered
+    take-this h g k = rw (← e, h, g, k)

@@ -1,0 +1,216 @@
+-- Laws of puts, for feeds of blocks in any order: what a put keeps, what it writes, and that puts which agree commute.
+use Prim.Native.Nat.{ℕ, _+_, _*_, _≤_, _<_}
+use mathlib.Core.Path.{_≡_, refl, sym, ap, subst, _∙_}
+use mathlib.Core.List.{List}
+use mathlib.Core.Bool.{Bool, true, false, _&&_, true≢false}
+use native.Mathlib.Omega.{arith}
+use borrow.Author.Tests.{ltb-true, ltb-false, eqb-true, eqb-false}
+use lib.Dec.{eqb, ltb}
+use lib.ListN.{length, take, drop, getD}
+use lib.Seq.{sets, length-sets}
+use Rattle.csmp.specs.declared.Image.{Image}
+use Rattle.transfer.specs.Bitmap.{held, marked, withBitmap}
+use Rattle.transfer.specs.Block.{fitsAt, Flash, putBlock, Sound}
+use Rattle.transfer.specs.Blocks.{blocks, blockLength}
+use Rattle.transfer.proofs.BlockLaws.{put-unfit, put-held, put-new}
+use Rattle.transfer.proofs.Lengths.{block-inside, lower-before}
+use Rattle.transfer.proofs.Marks.{length-marked, held-marked, held-other, marked-swap}
+use Rattle.transfer.proofs.Stores.{sets-swap, getD-sets-other, take-sets}
+
+-- a put into a state
+abbrev pub put : ℕ → List ℕ → Flash → Flash
+put n d f = putBlock (f .image) (f .bytes) n d
+
+-- both answers of a test
+split : {X : Type 0} (t : Bool) → (t ≡ true → X) → (t ≡ false → X) → X
+split true f g = f refl
+split false f g = g refl
+
+both : (t u : Bool) → (t && u) ≡ true → (t ≡ true) × (u ≡ true)
+both true true e = (refl, refl)
+both true false e = absurd (true≢false (sym e))
+both false u e = absurd (true≢false (sym e))
+
+-- what fitting says
+pub fits-told : (i : Image) (n len : ℕ) → fitsAt i n len ≡ true
+    → (n < blocks (i .size) (i .«block_size»)) × (len ≡ blockLength (i .size) (i .«block_size») n)
+unfolding fitsAt
+fits-told i n len h =
+    let t = both (ltb n (blocks (i .size) (i .«block_size»))) (eqb len (blockLength (i .size) (i .«block_size») n)) h in
+    (ltb-true n (blocks (i .size) (i .«block_size»)) (t .0), eqb-true len (blockLength (i .size) (i .«block_size») n) (t .1))
+
+-- another bitmap is nothing to it
+fits-mapped : (i : Image) (map : List ℕ) (n len : ℕ) → fitsAt (withBitmap i map) n len ≡ fitsAt i n len
+unfolding fitsAt
+fits-mapped i map n len = refl
+
+module _ (i : Image) (bs : List ℕ) (n : ℕ) (d : List ℕ) where
+  -- a put changes nothing, or marks a block that fits and is missing, and writes it
+  put-cases : (P : Flash → Type 0) → P (record { image = i; bytes = bs })
+      → (fitsAt i n (length d) ≡ true → held (i .bitmap) n ≡ false
+      → P (record { image = withBitmap i (marked (i .bitmap) n); bytes = sets bs (n * i .«block_size») d })) → P (putBlock i bs n d)
+  put-cases P same new = go (fitsAt i n (length d)) refl (held (i .bitmap) n) refl
+    where
+      go : (t : Bool) → fitsAt i n (length d) ≡ t → (u : Bool) → held (i .bitmap) n ≡ u → P (putBlock i bs n d)
+      go false h u g = subst P (sym (put-unfit i bs n d h)) same
+      go true h true g = subst P (sym (put-held i bs n d g)) same
+      go true h false g = subst P (sym (put-new i bs n d h g)) (new h g)
+
+  -- of the image only the bitmap changes
+  pub put-hash : putBlock i bs n d .image .hash ≡ i .hash
+  put-hash = put-cases (λ (f : Flash). f .image .hash ≡ i .hash) refl (λ h g. refl)
+
+  pub put-name : putBlock i bs n d .image .name ≡ i .name
+  put-name = put-cases (λ (f : Flash). f .image .name ≡ i .name) refl (λ h g. refl)
+
+  pub put-version : putBlock i bs n d .image .version ≡ i .version
+  put-version = put-cases (λ (f : Flash). f .image .version ≡ i .version) refl (λ h g. refl)
+
+  pub put-size : putBlock i bs n d .image .size ≡ i .size
+  put-size = put-cases (λ (f : Flash). f .image .size ≡ i .size) refl (λ h g. refl)
+
+  pub put-block-size : putBlock i bs n d .image .«block_size» ≡ i .«block_size»
+  put-block-size = put-cases (λ (f : Flash). f .image .«block_size» ≡ i .«block_size») refl (λ h g. refl)
+
+  -- what fits still does, and what is held still is
+  pub put-fits : (m len : ℕ) → fitsAt (putBlock i bs n d .image) m len ≡ fitsAt i m len
+  unfolding fitsAt
+  put-fits m len = rw (put-size, put-block-size)
+
+  pub held-stays : (m : ℕ) → held (i .bitmap) m ≡ true → held (putBlock i bs n d .image .bitmap) m ≡ true
+  held-stays m k =
+      put-cases (λ (f : Flash). held (f .image .bitmap) m ≡ true) k
+      (λ h g. held-other (i .bitmap) m n (λ e. true≢false (sym k ∙ ap (held (i .bitmap)) e ∙ g)) ∙ k)
+
+  -- another number's bit is as it was, and so is a spare bit
+  pub held-elsewhere : (m : ℕ) → (m ≡ n → ⊥) → held (putBlock i bs n d .image .bitmap) m ≡ held (i .bitmap) m
+  held-elsewhere m k = put-cases (λ (f : Flash). held (f .image .bitmap) m ≡ held (i .bitmap) m) refl (λ h g. held-other (i .bitmap) m n k)
+
+  pub put-spare : (m : ℕ) → blocks (i .size) (i .«block_size») ≤ m → held (putBlock i bs n d .image .bitmap) m ≡ held (i .bitmap) m
+  put-spare m k =
+      put-cases (λ (f : Flash). held (f .image .bitmap) m ≡ held (i .bitmap) m) refl
+      (λ h g. held-other (i .bitmap) m n (λ e. let t = fits-told i n (length d) h in omega arith))
+
+  -- the buffer keeps its length, and an index outside the block's stretch is as it was
+  pub put-length : length (putBlock i bs n d .bytes) ≡ length bs
+  put-length = put-cases (λ (f : Flash). length (f .bytes) ≡ length bs) refl (λ h g. length-sets bs (n * i .«block_size») d)
+
+  pub put-outside : (k : ℕ) → (n * i .«block_size» ≤ k → k < n * i .«block_size» + length d → ⊥) → getD (putBlock i bs n d .bytes) k 0 ≡ getD bs k 0
+  put-outside k o =
+      put-cases (λ (f : Flash). getD (f .bytes) k 0 ≡ getD bs k 0) refl (λ h g. getD-sets-other d bs (n * i .«block_size») k 0 o)
+
+  module _ (s : Sound i bs) where
+    pub sound-put : Sound (putBlock i bs n d .image) (putBlock i bs n d .bytes)
+    sound-put =
+        put-cases (λ (f : Flash). Sound (f .image) (f .bytes)) s
+        (λ h g. record {
+          blocked = s .blocked;
+          numbered = s .numbered;
+          room = rw (length-sets bs (n * i .«block_size») d) (s .room);
+          mapped = length-marked (i .bitmap) n ∙ s .mapped;
+        })
+
+    module _ (h : fitsAt i n (length d) ≡ true) where
+      -- a block that fits is held after its put, and another put of its number changes nothing
+      pub put-holds : held (putBlock i bs n d .image .bitmap) n ≡ true
+      put-holds =
+          split (held (i .bitmap) n) (held-stays n)
+          (λ g. rw (put-new i bs n d h g) (held-marked (i .bitmap) n (let t = fits-told i n (length d) h in let m = s .numbered in omega arith) (s .mapped)))
+
+      pub put-again : (e : List ℕ) → put n e (putBlock i bs n d) ≡ putBlock i bs n d
+      put-again e = put-held (putBlock i bs n d .image) (putBlock i bs n d .bytes) n e put-holds
+
+      -- a block that fits and was missing stands in its stretch
+      pub put-inside : held (i .bitmap) n ≡ false → take (length d) (drop (n * i .«block_size») (putBlock i bs n d .bytes)) ≡ d
+      put-inside g =
+          let t = fits-told i n (length d) h in
+          let b = block-inside (i .size) (i .«block_size») n (t .0) in
+          let r = s .room in
+          rw (put-new i bs n d h g) (take-sets d bs (n * i .«block_size») (omega arith))
+
+-- two puts, in either order
+abbrev pub Commute : Image → List ℕ → ℕ → List ℕ → ℕ → List ℕ → Type 0
+Commute i bs m d n e = put n e (putBlock i bs m d) ≡ put m d (putBlock i bs n e)
+
+-- two puts agree if they do not offer two contents of one missing block
+abbrev pub Agree : Image → ℕ → List ℕ → ℕ → List ℕ → Type 0
+Agree i m d n e = m ≡ n → held (i .bitmap) m ≡ false → fitsAt i m (length d) ≡ true → fitsAt i n (length e) ≡ true → d ≡ e
+
+module _ (i : Image) (m : ℕ) (d : List ℕ) (n : ℕ) (e : List ℕ) where
+  pub agree-other : (m ≡ n → ⊥) → Agree i m d n e
+  agree-other h p k f g = absurd (h p)
+
+  pub agree-same : d ≡ e → Agree i m d n e
+  agree-same h p k f g = h
+
+  pub agree-held : held (i .bitmap) m ≡ true → Agree i m d n e
+  agree-held h p k f g = absurd (true≢false (sym h ∙ k))
+
+  module _ (bs : List ℕ) where
+    -- a put keeps agreement
+    pub agree-put : (k : ℕ) (b : List ℕ) → Agree i m d n e → Agree (putBlock i bs k b .image) m d n e
+    agree-put k b a p h f g =
+        a p (split (held (i .bitmap) m) (λ t. absurd (true≢false (sym (held-stays i bs k b m t) ∙ h))) (λ t. t))
+        (sym (put-fits i bs k b m (length d)) ∙ f) (sym (put-fits i bs k b n (length e)) ∙ g)
+
+    -- a put that changes nothing, before and after another
+    swap-unfit : fitsAt i m (length d) ≡ false → Commute i bs m d n e
+    swap-unfit h =
+        let f = putBlock i bs n e in
+        ap (put n e) (put-unfit i bs m d h) ∙ sym (put-unfit (f .image) (f .bytes) m d (put-fits i bs n e m (length d) ∙ h))
+
+    swap-held : held (i .bitmap) m ≡ true → Commute i bs m d n e
+    swap-held h =
+        let f = putBlock i bs n e in
+        ap (put n e) (put-held i bs m d h) ∙ sym (put-held (f .image) (f .bytes) m d (held-stays i bs n e m h))
+
+    swap-same : m ≡ n → d ≡ e → Commute i bs m d n e
+    swap-same p q = rw (p, q)
+
+    module _ (f : fitsAt i m (length d) ≡ true) (g : fitsAt i n (length e) ≡ true) where
+      -- the stretches of two numbers lie apart
+      apart : m < n → sets (sets bs (m * i .«block_size») d) (n * i .«block_size») e ≡ sets (sets bs (n * i .«block_size») e) (m * i .«block_size») d
+      apart l =
+          let s = fits-told i m (length d) f in
+          let t = fits-told i n (length e) g in
+          let b = lower-before (i .size) (i .«block_size») n (t .0) m l in
+          sets-swap d e bs (m * i .«block_size») (n * i .«block_size») (omega arith)
+
+      -- two puts of missing blocks
+      both-new : (m ≡ n → ⊥) → held (i .bitmap) m ≡ false → held (i .bitmap) n ≡ false
+          → put n e (putBlock i bs m d)
+          ≡ record { image = withBitmap i (marked (marked (i .bitmap) m) n); bytes = sets (sets bs (m * i .«block_size») d) (n * i .«block_size») e }
+      both-new o h k =
+          let map = marked (i .bitmap) m in
+          ap (put n e) (put-new i bs m d f h)
+          ∙ put-new (withBitmap i map) (sets bs (m * i .«block_size») d) n e (fits-mapped i map n (length e) ∙ g)
+          (held-other (i .bitmap) n m (λ p. o (sym p)) ∙ k)
+
+module _ (i : Image) (bs : List ℕ) where
+  swap-lower : (m : ℕ) (d : List ℕ) (n : ℕ) (e : List ℕ) → fitsAt i m (length d) ≡ true → fitsAt i n (length e) ≡ true
+      → held (i .bitmap) m ≡ false → held (i .bitmap) n ≡ false → m < n → Commute i bs m d n e
+  swap-lower m d n e f g h k l =
+      both-new i m d n e bs f g (λ p. omega arith) h k
+      ∙ (rw (marked-swap (i .bitmap) m n, apart i m d n e bs f g l))
+      ∙ sym (both-new i n e m d bs g f (λ p. omega arith) k h)
+
+  swap-new : (m : ℕ) (d : List ℕ) (n : ℕ) (e : List ℕ) → fitsAt i m (length d) ≡ true → fitsAt i n (length e) ≡ true
+      → held (i .bitmap) m ≡ false → held (i .bitmap) n ≡ false → (m ≡ n → d ≡ e) → Commute i bs m d n e
+  swap-new m d n e f g h k a = go (eqb m n) refl (ltb m n) refl
+    where
+      go : (t : Bool) → eqb m n ≡ t → (u : Bool) → ltb m n ≡ u → Commute i bs m d n e
+      go true p u q = swap-same i m d n e bs (eqb-true m n p) (a (eqb-true m n p))
+      go false p true q = swap-lower m d n e f g h k (ltb-true m n q)
+      go false p false q = sym (swap-lower n e m d g f k h (let x = eqb-false m n p in let y = ltb-false m n q in omega arith))
+
+  -- puts that agree commute
+  pub put-swap : (m : ℕ) (d : List ℕ) (n : ℕ) (e : List ℕ) → Agree i m d n e → Commute i bs m d n e
+  put-swap m d n e a = go (fitsAt i m (length d)) refl (fitsAt i n (length e)) refl (held (i .bitmap) m) refl (held (i .bitmap) n) refl
+    where
+      go : (t : Bool) → fitsAt i m (length d) ≡ t → (u : Bool) → fitsAt i n (length e) ≡ u
+          → (v : Bool) → held (i .bitmap) m ≡ v → (w : Bool) → held (i .bitmap) n ≡ w → Commute i bs m d n e
+      go false f u g v h w k = swap-unfit i m d n e bs f
+      go true f false g v h w k = sym (swap-unfit i n e m d bs g)
+      go true f true g true h w k = swap-held i m d n e bs h
+      go true f true g false h true k = sym (swap-held i n e m d bs k)
+      go true f true g false h false k = swap-new m d n e f g h k (λ p. a p h f g)

@@ -1,0 +1,29 @@
+-- `transfer::bitmap::hold` meets its contract: the byte of a number in range is raised.
+use mathlib.Core.Path.{sym}
+use Rattle.transfer.proofs.Marks.{marked-below, marked-beyond}
+use borrow.Author.Needs.{needs}
+use Rattle.transfer.proofs.bitmap.hold.Statement.{statement}
+use Rattle.transfer.proofs.bitmap.hold.Tie as tie
+
+array-read-raise : tie.Need-array-read-raise
+array-read-raise c = search needs
+
+sub-raise : tie.Need-sub-raise
+sub-raise c = search needs
+
+raise-requires : tie.Need-raise-requires
+raise-requires c κs = search needs
+
+array-write-next : tie.Need-array-write-next
+array-write-next c = search needs
+
+returns : tie.Need-returns
+returns c = rw (c .raise .ensures) (sym (marked-below _ _ (c .before .if1 .taken)))
+
+returns-2 : tie.Need-returns-2
+returns-2 c = sym (marked-beyond _ _ (c .if1 .left))
+
+pub hold-spec : {M : Type 1} → statement M
+hold-spec =
+    tie.close
+    (tie.spec array-read-raise sub-raise raise-requires array-write-next returns returns-2)

@@ -1,0 +1,78 @@
+-- Taking blocks, document 01, "Transfer", record 67.
+use Prim.Native.Nat.{ℕ, _*_, _-_, _≤_}
+use mathlib.Core.Path.{_≡_}
+use mathlib.Core.List.{List}
+use mathlib.Core.Bool.{Bool, false, _&&_}
+use mathlib.Core.Option.{Option, none, some}
+use lib.ListN.{length, take, drop}
+use lib.Dec.{eqb, ltb}
+use lib.Seq.{sets}
+use Rattle.buffer.specs.Pick.{pick}
+use Rattle.buffer.specs.Same.{sameBytes}
+use Rattle.csmp.specs.Read.{blockOf}
+use Rattle.csmp.specs.declared.Image.{Image}
+use Rattle.protobuf.specs.Statements.{numberGiven, bytesGiven}
+use Rattle.protobuf.specs.declared.Bytes.{Bytes}
+use Rattle.protobuf.specs.declared.Bytes.the-variants.{At, Absent}
+use Rattle.transfer.specs.Blocks.{blocks, blockLength}
+use Rattle.transfer.specs.Bitmap.{held, marked, withBitmap}
+
+-- bytes that lie in a value
+abbrev pub Inside : List ℕ → Bytes → Type 0
+Inside v (At start stop) = (start ≤ stop) × (stop ≤ length v)
+Inside v Absent = Unit {0}
+
+-- whether bytes of a value are a hash
+unfoldable pub isHash : List ℕ → List ℕ → Bytes → Bool
+isHash hash v (At start stop) = sameBytes hash (take (stop - start) (drop start v))
+isHash hash v Absent = false
+
+-- the number is in range, and the data has exactly the block's length
+unfoldable pub fitsAt : Image → ℕ → ℕ → Bool
+fitsAt i n len = ltb n (blocks (i .size) (i .«block_size»)) && eqb len (blockLength (i .size) (i .«block_size») n)
+
+-- an open image and the bytes of the image buffer
+pub record Flash : Type 0 where
+  pub image : Image
+  pub bytes : List ℕ
+
+-- a fitting block not yet held is written into its stretch of the image buffer only; others change nothing
+unfoldable pub putBlock : Image → List ℕ → ℕ → List ℕ → Flash
+putBlock i bs n dat =
+    pick (fitsAt i n (length dat))
+    (pick (held (i .bitmap) n) (record { image = i; bytes = bs })
+    (record { image = withBitmap i (marked (i .bitmap) n); bytes = sets bs (n * i .«block_size») dat }))
+    (record { image = i; bytes = bs })
+
+-- an open image that the bitmap and the buffer have room for
+pub record Sound (i : Image) (bs : List ℕ) : Type 0 where
+  pub blocked : 1 ≤ i .«block_size»
+  pub numbered : blocks (i .size) (i .«block_size») ≤ 1024
+  pub room : i .size ≤ length bs
+  pub mapped : length (i .bitmap) ≡ 128
+
+-- the number and the data that an ImageBlock offers to the open image: its hash is the open one, and both are present
+pub record Offer : Type 0 where
+  pub number : ℕ
+  pub bytes : List ℕ
+
+abbrev pub offerOf : Option ℕ → Option (List ℕ) → Option Offer
+offerOf none d = none
+offerOf (some n) none = none
+offerOf (some n) (some bs) = some (record { number = n; bytes = bs })
+
+unfoldable pub offered : Image → List ℕ → Option Offer
+offered i v =
+    pick (isHash (i .hash) v (blockOf v .hash)) (offerOf (numberGiven (blockOf v .number)) (bytesGiven v (blockOf v .«data»))) none
+
+abbrev pub putOffer : Image → List ℕ → Option Offer → Flash
+putOffer i bs none = record { image = i; bytes = bs }
+putOffer i bs (some o) = putBlock i bs (o .number) (o .bytes)
+
+unfoldable pub takeBlock : Image → List ℕ → List ℕ → Flash
+takeBlock i bs v = putOffer i bs (offered i v)
+
+-- what a call leaves of the open image and the buffer
+pub record Left (f : Flash) (image : Image) (bytes : List ℕ) : Type 0 where
+  pub same-image : image ≡ f .image
+  pub same-bytes : bytes ≡ f .bytes

@@ -1,0 +1,5 @@
+pub mod Blocks
+pub mod Bitmap
+pub mod Block
+pub mod Merge
+pub mod Statements

@@ -1,0 +1,43 @@
+// One download: block arithmetic, the bitmap of the blocks held, and blocks taken into the image buffer.
+mod bitmap;
+mod block;
+
+pub use bitmap::all_held;
+pub use bitmap::is_held;
+pub use block::take_block;
+use csmp::Image;
+ghost use mathlib.Core.Path.{_≡_};
+ghost use Rattle.transfer.specs.Blocks.{blocks, blockLength};
+ghost use Rattle.transfer.specs.Bitmap.{complete};
+
+// How many blocks a file has: its size by the block size, rounded up.
+pub fn block_count(size: u32, block_size: u32) -> u64
+    ensures { λ r. ⌜ r ≡ blocks size «block_size» ⌝ }
+{
+    if block_size == 0 {
+        return 0;
+    }
+    let each = block_size as u64;
+    (size as u64 + (each - 1)) / each
+}
+
+// The length of block n: every block is full but the last, which holds the rest.
+pub fn block_len(size: u32, block_size: u32, n: u32) -> u64
+    ensures { λ r. ⌜ r ≡ blockLength size «block_size» n ⌝ }
+{
+    let start = n as u64 * block_size as u64;
+    if size as u64 <= start {
+        return 0;
+    }
+    let rest = size as u64 - start;
+    let each = block_size as u64;
+    if each < rest { each } else { rest }
+}
+
+// Whether no block of the open image is missing.
+pub fn is_complete(image: Image) -> bool
+    ensures { λ r. ⌜ r ≡ complete image ⌝ }
+{
+    let map = image.bitmap;
+    bitmap::all_held(map, block_count(image.size, image.block_size))
+}
