@@ -9,7 +9,7 @@ ghost use Rattle.firmware.specs.Place.{isHash, hashAt, hashGiven, nameAt
 ghost use Rattle.buffer.specs.Same.{sameBytes};
 
 // Whether bytes are there and are 32: a hash.
-pub fn is_hash(place: Bytes) -> bool
+pub(crate) fn is_hash(place: Bytes) -> bool
     ensures { λ r. ⌜ r ≡ isHash place ⌝ }
 {
     let Bytes::At(start, end) = place else {
@@ -22,7 +22,7 @@ pub fn is_hash(place: Bytes) -> bool
 }
 
 // The bytes, at the front of zeros.
-pub fn hash_at(v: &[u8], place: Bytes) -> [u8; 32]
+pub(crate) fn hash_at(v: &[u8], place: Bytes) -> [u8; 32]
     requires { ⌜ Inside (now v) place ⌝ }
     ensures { λ r. ⌜ r ≡ hashAt (now (v .entry)) place ⌝ }
 {
@@ -44,7 +44,7 @@ pub fn hash_given(v: &[u8], place: Bytes) -> Hash
     Hash { given, bytes }
 }
 
-pub fn name_at(v: &[u8], place: Bytes) -> Name
+pub(crate) fn name_at(v: &[u8], place: Bytes) -> Name
     requires { ⌜ Inside (now v) place ⌝ }
     ensures { λ r. ⌜ r ≡ nameAt (now (v .entry)) place ⌝ }
 {
@@ -64,7 +64,7 @@ pub fn name_at(v: &[u8], place: Bytes) -> Name
     }
 }
 
-pub fn version_at(v: &[u8], place: Bytes) -> Version
+pub(crate) fn version_at(v: &[u8], place: Bytes) -> Version
     requires { ⌜ Inside (now v) place ⌝ }
     ensures { λ r. ⌜ r ≡ versionAt (now (v .entry)) place ⌝ }
 {
@@ -85,7 +85,7 @@ pub fn version_at(v: &[u8], place: Bytes) -> Version
 }
 
 // Whether bytes of a value, if they are there, are a text; `absent` is the answer where they are not.
-pub fn is_text(text: &[u8], v: &[u8], place: Bytes, absent: bool) -> bool
+pub(crate) fn is_text(text: &[u8], v: &[u8], place: Bytes, absent: bool) -> bool
     requires { ⌜ Inside (now v) place ⌝ }
     ensures { λ r. ⌜ r ≡ isText (now (text .entry)) (now (v .entry)) absent place ⌝ }
 {
@@ -95,7 +95,7 @@ pub fn is_text(text: &[u8], v: &[u8], place: Bytes, absent: bool) -> bool
     buffer::same(text, &v[start..end])
 }
 
-pub fn same_hash(a: [u8; 32], b: [u8; 32]) -> bool
+pub(crate) fn same_hash(a: [u8; 32], b: [u8; 32]) -> bool
     ensures { λ r. ⌜ r ≡ sameBytes a b ⌝ }
 {
     buffer::same(&a, &b)
