@@ -6,12 +6,14 @@ use mathlib.Core.Bool.{Bool, true, false}
 use native.Mathlib.Nat.{add-zero, add-suc, suc-add, le-add-right}
 use native.Mathlib.Numerals.{add-one}
 use native.Mathlib.Omega.{arith}
+use borrow.Author.Tests.{leb-true, leb-false}
+use lib.Dec.{leb}
 use lib.ListN.{length, take, drop, set, getD, take-append-drop, length-append, length-set, length-drop, drop-of-length-le}
 use lib.Seq.{sets, length-sets, set-out, take-set-le, drop-set-add, drop-cons, take-all, sets-eq, take-append-seam}
 use Rattle.buffer.specs.Pick.{pick}
 use Rattle.buffer.specs.Stretch.{fits}
-use Rattle.buffer.proofs.Stretches.{fits-true, room}
-use Rattle.buffer.specs.Put.{placed, after, Put}
+use Rattle.buffer.proofs.Stretches.{fits-true, fits-false, room}
+use Rattle.buffer.specs.Put.{placed, after, Put, Appended}
 
 module _ {A : Type 0} where
   -- stores past the end change nothing
@@ -118,3 +120,98 @@ chain-whole {out} {ps} {left} {n} c h =
     let e : left ≡ all ps ++ drop (0 + length (all ps)) out = r .0 ∙ sets-eq (all ps) out 0 (omega arith) in
     let l : length left ≡ length out = ap length (r .0) ∙ length-sets out 0 (all ps) in
     record { size = z; bytes = rw (z, e, take-append-seam (all ps) (drop (0 + length (all ps)) out)); room = omega arith }
+
+-- where pieces do not fit, the position is past the end and stays there
+after-fits : (len at n : ℕ) → at + n ≤ len → after len at n ≡ at + n
+unfolding after
+after-fits len at n h = rw (fits-true len at n h)
+
+after-full : (len at n : ℕ) → len < at + n → after len at n ≡ len + 1
+unfolding after
+after-full len at n h = rw (fits-false len at n h)
+
+fits-or : {X : Type 0} (a b : ℕ) → (a ≤ b → X) → (b < a → X) → X
+fits-or {X = X} a b y n = go (leb a b) refl
+  where
+    go : (t : Bool) → leb a b ≡ t → X
+    go true e = y (leb-true a b e)
+    go false e = n (leb-false a b e)
+
+pub appended-put : {out : List ℕ} {at : ℕ} {bs left : List ℕ} {n : ℕ} → Put out at bs left n → Appended out at bs left n
+unfolding placed
+appended-put {out} {at} {bs} {left} {n} p =
+    record {
+      position = p .position;
+      bytes = λ h.
+          fits-or (at + length bs) (length out)
+          (λ k. p .bytes ∙ rw (fits-true (length out) at (length bs) k))
+          (λ k. let z = after-full (length out) at (length bs) k in absurd (omega (arith, p .position)));
+      kept = ap length (p .bytes) ∙ length-placed out at bs;
+    }
+
+pub appended-none : (out : List ℕ) (at : ℕ) → at ≤ length out + 1 → Appended out at [] out at
+appended-none out at h =
+    record {
+      position =
+          fits-or at (length out)
+          (λ k. let z = after-fits (length out) at 0 (omega arith) in omega (arith, z))
+          (λ k. let z = after-full (length out) at 0 (omega arith) in omega (arith, z));
+      bytes = λ k. refl;
+      kept = refl;
+    }
+
+pub appended-most : {out : List ℕ} {at : ℕ} {bs left : List ℕ} {n : ℕ} → Appended out at bs left n → n ≤ length left + 1
+appended-most {out} {at} {bs} {left} {n} p =
+    let k = p .kept in
+    fits-or (at + length bs) (length out)
+    (λ h. let z = after-fits (length out) at (length bs) h in omega (arith, p .position))
+    (λ h. let z = after-full (length out) at (length bs) h in omega (arith, p .position))
+
+pub appended-join : {out : List ℕ} {at : ℕ} (a : List ℕ) {mid : List ℕ} {m : ℕ} (b : List ℕ) {left : List ℕ} {n : ℕ}
+    → Appended out at a mid m → Appended mid m b left n → Appended out at (a ++ b) left n
+appended-join {out} {at} a {mid} {m} b {left} {n} p q =
+    let l : length (a ++ b) ≡ length a + length b = length-append a b in
+    let k = p .kept in
+    fits-or (at + length (a ++ b)) (length out)
+    (λ h.
+    let y = after-fits (length out) at (length a) (omega arith) in
+    let em : m ≡ at + length a = omega (arith, p .position) in
+    let z = after-fits (length mid) m (length b) (omega arith) in
+    let x = after-fits (length out) at (length (a ++ b)) h in
+    record {
+      position = omega (arith, q .position);
+      bytes = λ g. q .bytes (omega arith) ∙ rw (p .bytes (omega arith), em, sets-append a out b at);
+      kept = q .kept ∙ p .kept;
+    })
+    (λ h.
+    let x = after-full (length out) at (length (a ++ b)) h in
+    let e : n ≡ length out + 1 =
+    fits-or (at + length a) (length out)
+    (λ g.
+    let y = after-fits (length out) at (length a) g in
+    let z = after-full (length mid) m (length b) (omega (arith, p .position)) in
+    omega (arith, q .position))
+    (λ g.
+    let y = after-full (length out) at (length a) g in
+    let z = after-full (length mid) m (length b) (omega (arith, p .position)) in
+    omega (arith, q .position)) in
+    record { position = omega arith; bytes = λ g. absurd (omega arith); kept = q .kept ∙ p .kept })
+
+-- where all fits, all is there
+pub appended-all : {out : List ℕ} {at : ℕ} {bs left : List ℕ} {n : ℕ} → Appended out at bs left n → at + length bs ≤ length out
+    → (left ≡ sets out at bs) × (n ≡ at + length bs)
+appended-all {out} {at} {bs} {left} {n} p h =
+    let z = after-fits (length out) at (length bs) h in
+    let e : n ≡ at + length bs = omega (arith, p .position) in
+    (p .bytes (omega arith), e)
+
+-- at the front of a buffer, what fits is its first bytes
+pub appended-front : {out : List ℕ} {bs left : List ℕ} {n : ℕ} → Appended out 0 bs left n → n ≤ length out → (n ≡ length bs) × (take n left ≡ bs)
+appended-front {out} {bs} {left} {n} p h =
+    fits-or (0 + length bs) (length out)
+    (λ k.
+    let r = appended-all p k in
+    let z : n ≡ length bs = omega (arith, r .1) in
+    let e : left ≡ bs ++ drop (0 + length bs) out = r .0 ∙ sets-eq bs out 0 (omega arith) in
+    (z, rw (z, e, take-append-seam bs (drop (0 + length bs) out))))
+    (λ k. let z = after-full (length out) 0 (length bs) k in absurd (omega (arith, p .position)))

@@ -1,5 +1,5 @@
 -- Appending to a lent output at a position: whole where it fits, else nothing, and the position is then past the end.
-use Prim.Native.Nat.{ℕ, _+_}
+use Prim.Native.Nat.{ℕ, _+_, _≤_}
 use mathlib.Core.Path.{_≡_}
 use mathlib.Core.List.{List}
 use lib.ListN.{length}
@@ -19,3 +19,9 @@ after room at n = pick (fits room at n) (at + n) (room + 1)
 pub record Put (out : List ℕ) (at : ℕ) (bs : List ℕ) (left : List ℕ) (next : ℕ) : Type 0 where
   pub bytes : left ≡ placed out at bs
   pub position : next ≡ after (length out) at (length bs)
+
+-- what is left and answered where `bs` may be appended in pieces: where it does not fit whole, only the position is told
+pub record Appended (out : List ℕ) (at : ℕ) (bs : List ℕ) (left : List ℕ) (next : ℕ) : Type 0 where
+  pub position : next ≡ after (length out) at (length bs)
+  pub bytes : next ≤ length out → left ≡ sets out at bs
+  pub kept : length left ≡ length out

@@ -1,5 +1,5 @@
 -- Laws of the writers: ids as texts, and values that are put together at the front of a buffer.
-use Prim.Native.Nat.{ℕ, _+_, _*_, _≤_, _<_}
+use Prim.Native.Nat.{ℕ, _+_, _*_, _^_, _≤_, _<_}
 use mathlib.Core.Path.{_≡_, refl, ap, _∙_}
 use mathlib.Core.List.{List, [], _∷_, _++_, map}
 use mathlib.Core.Bool.{Bool, true, false}
@@ -14,11 +14,14 @@ use Rattle.buffer.proofs.Puts.{all, Chain, chain-fits, Whole, chain-whole, put-
 use Rattle.buffer.proofs.Stretches.{fits-true, room}
 use Rattle.decimal.specs.Decimal.{decimal}
 use Rattle.decimal.proofs.Laws.{digits-most}
-use Rattle.protobuf.specs.Table.{each, ifAny, ifGiven}
+use Rattle.protobuf.specs.Statements.{numberGiven}
+use Rattle.protobuf.specs.Table.{each, ifAny, ifGiven, written, writeBy}
 use Rattle.protobuf.specs.Write.{numberField, bytesHead, bytesField}
+use Rattle.schedule.specs.declared.Moment.{Moment}
 use Rattle.varint.specs.Varint.{delimited}
-use Rattle.varint.proofs.Laws.{varint-length, two-length, delimited-length}
-use Rattle.csmp.specs.Write.{texts}
+use Rattle.varint.proofs.Laws.{varint-length, varint-1, varint-5, two-length, delimited-length}
+use Rattle.csmp.specs.Write.{texts, momentNumber, responseRecord}
+use Rattle.csmp.specs.declared.Hash.{Hash}
 
 -- `rest` is what is still to be appended to `left` at `end`, for `bs` to be appended to `out` at `at`
 pub record Left (out : List ℕ) (at : ℕ) (bs left : List ℕ) (end : ℕ) (rest : List ℕ) : Type 0 where
@@ -121,6 +124,34 @@ pub data Most : List (List ℕ) → ℕ → Type 0 where
 all-most : {ps : List (List ℕ)} {m : ℕ} → Most ps m → length (all ps) ≤ m
 all-most nil = omega arith
 all-most (upto {p = p} {ps = ps} h r) = let k = all-most r in omega (arith, length-append p (all ps))
+
+-- at most how many bytes a response takes
+answer-most : (n v : ℕ) → n < 16 → v < 128 → length (numberField n v) ≤ 2
+unfolding numberField
+answer-most n v h g = omega (arith, two-length (n * 8) v, varint-1 (n * 8) (omega arith), varint-1 v g)
+
+pub word-most : (n v : ℕ) → n < 16 → v < 2 ^ 32 → length (numberField n v) ≤ 6
+unfolding numberField
+word-most n v h g = omega (arith, two-length (n * 8) v, varint-1 (n * 8) (omega arith), varint-5 v g)
+
+hash-most : (given : Bool) (bs : List ℕ) → length bs ≡ 32 → length (ifAny (bytesField 1) (ifGiven given bs)) ≤ 34
+unfolding ifAny bytesField
+hash-most true bs h = omega (arith, delimited-length 10 bs, varint-1 10 (omega arith), varint-1 (length bs) (omega arith))
+hash-most false bs h = omega arith
+
+abbrev pub timeField : Moment → List ℕ
+timeField t = ifAny (numberField 3) (numberGiven (momentNumber t))
+
+pub response-record-most : (kind : ℕ) (h : Hash) (answer : ℕ) (time : Moment) → kind < 128 → length (h .bytes) ≡ 32 → answer < 128
+    → length (timeField time) ≤ 6 → length (responseRecord kind h answer time) ≤ 48
+unfolding responseRecord writeBy written ifAny
+response-record-most kind h answer time k l a t =
+    let x = ifAny (bytesField 1) (ifGiven (h .given) (h .bytes)) in
+    let y = numberField 2 answer in
+    let z = timeField time in
+    let e : length (x ++ (y ++ (z ++ []))) ≤ 42 =
+    omega (arith, length-append x (y ++ (z ++ [])), length-append y (z ++ []), length-append z [], hash-most (h .given) (h .bytes) l, answer-most 2 answer (omega arith) a) in
+    omega (arith, delimited-length kind (x ++ (y ++ (z ++ []))), varint-1 kind k, varint-1 (length (x ++ (y ++ (z ++ [])))) (omega arith))
 
 -- a value that surely fits its buffer
 pub whole : {out : List ℕ} {ps : List (List ℕ)} {left : List ℕ} {n m : ℕ} → Chain out 0 ps left n → Most ps m → m ≤ length out → Whole out (all ps) left n

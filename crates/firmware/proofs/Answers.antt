@@ -22,9 +22,10 @@ use Rattle.schedule.specs.declared.Moment.the-variants.{At as On, Absent as Nev
 use Rattle.schedule.specs.declared.Point.{Point}
 use Rattle.state.specs.declared.Device.{Device}
 use Rattle.state.specs.declared.Images.{Images}
+use Rattle.state.specs.declared.Pending.{Pending}
 use Rattle.transfer.specs.Block.{Inside}
 use Rattle.firmware.specs.Place.{isHash, hashAt, isText}
-use Rattle.firmware.specs.Load.{unchanged, withPending, withBackup, isOpen, openFault, sourceFault, pendingFault, loads, loadsAt, loadAnswered, cancels, cancelAnswered, backs, backupAnswered}
+use Rattle.firmware.specs.Load.{unchanged, withPending, withBackup, isOpen, openFault, sourceFault, pendingFault, loads, loadsAt, loadAnswered, cancels, cancelAnswered, backs, backupAnswered, noPending, booted}
 use Rattle.firmware.specs.Open.{InTransfer, sizedTexts, isGiven, numberOr0, isWhole, isOurs, faultOf, openedBy, replaced, opens, openIf, transferAnswered}
 
 -- bytes that end before they start are no hash
@@ -33,7 +34,7 @@ unfolding isHash
 hash-backward start stop b h e = rw e (ne-eqb (stop - start) 32 (λ q. omega arith))
 
 -- bytes that are found lie in the value, in a part of it too
-inside : (v : List ℕ) (n : ℕ) (p : Bytes) → bytesIn v n ≡ p → Inside v p
+pub inside : (v : List ℕ) (n : ℕ) (p : Bytes) → bytesIn v n ≡ p → Inside v p
 inside v n (At a e) h = bytes-within v n a e h
 inside v n Absent h = tt
 
@@ -202,3 +203,14 @@ module _ (v : List ℕ) (t : Transfer) (e : t ≡ transferOf v) where
       pub transfer-open : {image : Image} → f ≡ 0 → image ≡ openedBy v t n m → transferAnswered d i v ≡ opens i image
       unfolding transferAnswered openIf
       transfer-open k w = rw (← e, h, ← p, ← q, ← g, eq-eqb f 0 k, w)
+
+-- a boot
+module _ (i : Images) where
+  pub boot-idle : i .pending .is ≡ false → booted i ≡ i
+  unfolding booted
+  boot-idle h = rw h
+
+  pub boot-pending : (p : Pending) → p ≡ noPending → i .pending .is ≡ true
+      → booted i ≡ record { running = i .pending .hash; «open» = i .«open»; image = i .image; pending = p; backup = i .backup }
+  unfolding booted
+  boot-pending p e h = rw (h, e)

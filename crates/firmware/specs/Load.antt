@@ -87,3 +87,10 @@ backs i hash =
 
 unfoldable pub backupAnswered : Images → List ℕ → Answered
 backupAnswered i v = pick (isHash (hashOf v .hash)) (backs i (hashAt v (hashOf v .hash))) (unchanged i 6)
+
+-- boot makes the pending hash, if any, running, and clears pending
+unfoldable pub booted : Images → Images
+booted i =
+    pick (i .pending .is)
+    (record { running = i .pending .hash; «open» = i .«open»; image = i .image; pending = noPending; backup = i .backup })
+    i

@@ -6,8 +6,9 @@ mod place;
 pub use load::answer_backup;
 pub use load::answer_cancel;
 pub use load::answer_load;
+pub use load::boot;
 pub use open::answer_transfer;
-pub use place::hash_given;
+pub use place::echo;
 use state::Images;
 
 // The images after a record, and the answer.

@@ -7,7 +7,7 @@ use schedule::Point;
 use state::Images;
 use state::Pending;
 ghost use mathlib.Core.Path.{_≡_};
-ghost use Rattle.firmware.specs.Load.{unchanged, isOpen, isBackup, isPending, openFault, sourceFault, pendingFault, loads, loadAnswered, cancels, cancelAnswered, backs, backupAnswered};
+ghost use Rattle.firmware.specs.Load.{unchanged, isOpen, isBackup, isPending, openFault, sourceFault, pendingFault, loads, loadAnswered, noPending, cancels, cancelAnswered, backs, backupAnswered, booted};
 
 pub fn keep(images: Images, answer: u32) -> Answered
     ensures { λ r. ⌜ r ≡ unchanged images answer ⌝ }
@@ -123,16 +123,22 @@ pub fn answer_load(images: Images, v: &[u8]) -> Answered
     load(images, place::hash_at(v, given), t)
 }
 
+fn none_pending() -> Pending
+    ensures { λ r. ⌜ r ≡ noPending ⌝ }
+{
+    Pending {
+        is: false,
+        hash: [0; 32],
+        time: Point(0),
+    }
+}
+
 // The pending hash is cleared; the running one can't be; others are unknown.
 fn cancel(images: Images, hash: [u8; 32]) -> Answered
     ensures { λ r. ⌜ r ≡ cancels images hash ⌝ }
 {
     if is_pending(images, hash) {
-        let pending = Pending {
-            is: false,
-            hash: [0; 32],
-            time: Point(0),
-        };
+        let pending = none_pending();
         let mut next = images;
         next.pending = pending;
         return keep(next, crate::OK);
@@ -186,4 +192,19 @@ pub fn answer_backup(images: Images, v: &[u8]) -> Answered
         return keep(images, crate::INVALID_REQ);
     }
     back_up(images, place::hash_at(v, given))
+}
+
+// A boot: the pending hash, if there is one, runs now, and no load is pending.
+pub fn boot(images: Images) -> Images
+    ensures { λ r. ⌜ r ≡ booted images ⌝ }
+{
+    if !images.pending.is {
+        return images;
+    }
+    let running = images.pending.hash;
+    let pending = none_pending();
+    let mut next = images;
+    next.running = running;
+    next.pending = pending;
+    next
 }

@@ -5,7 +5,7 @@ use csmp::Version;
 use protobuf::Bytes;
 ghost use mathlib.Core.Path.{_≡_};
 ghost use Rattle.transfer.specs.Block.{Inside};
-ghost use Rattle.firmware.specs.Place.{isHash, hashAt, hashGiven, nameAt, versionAt, isText};
+ghost use Rattle.firmware.specs.Place.{isHash, hashAt, echoed, nameAt, versionAt, isText};
 ghost use Rattle.buffer.specs.Same.{sameBytes};
 
 // Whether bytes are there and are 32: a hash.
@@ -34,11 +34,11 @@ pub(crate) fn hash_at(v: &[u8], place: Bytes) -> [u8; 32]
     bytes
 }
 
-// The hash that a response echoes: one of 32 bytes, else none.
-pub fn hash_given(v: &[u8], place: Bytes) -> Hash
-    requires { ⌜ Inside (now v) place ⌝ }
-    ensures { λ r. ⌜ r ≡ hashGiven (now (v .entry)) place ⌝ }
+// The hash that a response echoes: the field of that number where it has 32 bytes, else none.
+pub fn echo(v: &[u8], number: u32) -> Hash
+    ensures { λ r. ⌜ r ≡ echoed (now (v .entry)) number ⌝ }
 {
+    let place = protobuf::last_bytes(v, number);
     let given = is_hash(place);
     let bytes = hash_at(v, place);
     Hash { given, bytes }

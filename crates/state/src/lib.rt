@@ -11,6 +11,7 @@ use schedule::Point;
 pub use setup::Settings;
 pub use setup::Setup;
 pub use setup::set_up;
+pub use setup::url_of;
 
 // A hardware id: the first `len` of `bytes`.
 pub struct HwId {

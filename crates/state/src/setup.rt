@@ -47,7 +47,8 @@ fn hw_id_of(s: &[u8]) -> HwId
     }
 }
 
-fn url_of(s: &[u8]) -> Url
+// A URL held by value, with zeros behind it.
+pub fn url_of(s: &[u8]) -> Url
     ensures { λ r. ⌜ r ≡ urlOf (now (s .entry)) ⌝ }
 {
     let mut bytes = [0u8; 128];

@@ -20,6 +20,11 @@ module _ (size each n : ℕ) where
   unfolding blockLength
   length-none h = omega arith
 
+  -- no block is longer than the block size
+  pub length-most : blockLength size each n ≤ each
+  unfolding blockLength
+  length-most = omega arith
+
   pub length-full : each < size - n * each → blockLength size each n ≡ each
   unfolding blockLength
   length-full h = omega arith

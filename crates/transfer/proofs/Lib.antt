@@ -5,4 +5,5 @@ pub mod Marks
 pub mod Puts
 pub mod Stores
 pub mod Merges
+pub mod Ends
 pub mod Theorems

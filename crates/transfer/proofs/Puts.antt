@@ -22,11 +22,11 @@ abbrev pub put : ℕ → List ℕ → Flash → Flash
 put n d f = putBlock (f .image) (f .bytes) n d
 
 -- both answers of a test
-split : {X : Type 0} (t : Bool) → (t ≡ true → X) → (t ≡ false → X) → X
+pub split : {X : Type 0} (t : Bool) → (t ≡ true → X) → (t ≡ false → X) → X
 split true f g = f refl
 split false f g = g refl
 
-both : (t u : Bool) → (t && u) ≡ true → (t ≡ true) × (u ≡ true)
+pub both : (t u : Bool) → (t && u) ≡ true → (t ≡ true) × (u ≡ true)
 both true true e = (refl, refl)
 both true false e = absurd (true≢false (sym e))
 both false u e = absurd (true≢false (sym e))
@@ -46,7 +46,7 @@ fits-mapped i map n len = refl
 
 module _ (i : Image) (bs : List ℕ) (n : ℕ) (d : List ℕ) where
   -- a put changes nothing, or marks a block that fits and is missing, and writes it
-  put-cases : (P : Flash → Type 0) → P (record { image = i; bytes = bs })
+  pub put-cases : (P : Flash → Type 0) → P (record { image = i; bytes = bs })
       → (fitsAt i n (length d) ≡ true → held (i .bitmap) n ≡ false
       → P (record { image = withBitmap i (marked (i .bitmap) n); bytes = sets bs (n * i .«block_size») d })) → P (putBlock i bs n d)
   put-cases P same new = go (fitsAt i n (length d)) refl (held (i .bitmap) n) refl

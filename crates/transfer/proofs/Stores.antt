@@ -1,10 +1,10 @@
 -- Laws of two runs of stores into a list, and of what a run leaves.
-use Prim.Native.Nat.{ℕ, suc, _+_, _≤_, _<_}
+use Prim.Native.Nat.{ℕ, suc, _+_, _-_, _≤_, _<_}
 use mathlib.Core.Path.{_≡_, refl, ap, _∙_}
 use mathlib.Core.List.{List, [], _∷_, _++_, append-assoc}
 use native.Mathlib.Omega.{arith}
 use lib.ListN.{length, take, drop, set, getD}
-use lib.Seq.{sets, sets-eq, set-comm, getD-set-other, drop-at, length-take-le, take-append-seam}
+use lib.Seq.{sets, sets-eq, set-comm, getD-set-other, take-set-le, drop-set-lt, drop-set-add, drop-at, length-take-le, take-append-seam}
 
 module _ {A : Type 0} where
   -- a store before a run
@@ -31,3 +31,19 @@ module _ {A : Type 0} where
   take-sets vs l i h =
       rw (sets-eq vs l i h, append-assoc (take i l) vs (drop (i + length vs) l), drop-at (take i l) (vs ++ drop (i + length vs) l) i (length-take-le i l (omega arith)))
       (take-append-seam vs (drop (i + length vs) l))
+
+  -- what lies behind a run is as it was, and a stretch before it
+  pub drop-sets : (vs l : List A) (i k : ℕ) → i + length vs ≤ k → drop k (sets l i vs) ≡ drop k l
+  drop-sets [] l i k h = refl
+  drop-sets (a ∷ vs) l i k h = drop-sets vs (set l i a) (suc i) k (omega arith) ∙ drop-set-lt k l i a (omega arith)
+
+  stretch-set : (l : List A) (i k n : ℕ) (a : A) → k + n ≤ i → take n (drop k (set l i a)) ≡ take n (drop k l)
+  stretch-set l i k n a h =
+      let e : i ≡ k + (i - k) = omega arith in
+      ap (λ (j : ℕ). take n (drop k (set l j a))) e
+      ∙ ap (take n) (drop-set-add k l (i - k) a)
+      ∙ take-set-le n (drop k l) (i - k) a (omega arith)
+
+  pub stretch-sets : (vs l : List A) (i k n : ℕ) → k + n ≤ i → take n (drop k (sets l i vs)) ≡ take n (drop k l)
+  stretch-sets [] l i k n h = refl
+  stretch-sets (a ∷ vs) l i k n h = stretch-sets vs (set l i a) (suc i) k n (omega arith) ∙ stretch-set l i k n a h

@@ -1,5 +1,5 @@
 -- Laws of the spellings, one step each.
-use Prim.Native.Nat.{ℕ, zero, suc, _+_, _*_, _-_, _/_, _%_, _≤_, _<_}
+use Prim.Native.Nat.{ℕ, zero, suc, _+_, _*_, _-_, _/_, _%_, _^_, _≤_, _<_}
 use mathlib.Core.Path.{_≡_, refl, sym, ap, _∙_}
 use mathlib.Core.List.{List, [], _∷_}
 use mathlib.Core.Bool.{Bool, true, false}
@@ -50,6 +50,29 @@ spelling-length (suc k) v = go (ltb v 128) (spelling-length k (v / 128))
 pub varint-length : (v : ℕ) → (1 ≤ length (varint v)) × (length (varint v) ≤ 10)
 unfolding varint
 varint-length v = spelling-length 9 v
+
+-- numbers below a power of 128 have short spellings
+abbrev most : ℕ → ℕ
+most zero = 128
+most (suc j) = 128 * most j
+
+spelling-most : (k j v : ℕ) → v < most j → length (spelling k v) ≤ suc j
+unfolding spelling
+spelling-most zero j v h = omega arith
+spelling-most (suc k) zero v h = rw (lt-ltb v 128 h) (omega arith)
+spelling-most (suc k) (suc j) v h = go (ltb v 128) (spelling-most k j (v / 128) (omega arith))
+  where
+    go : (t : Bool) → length (spelling k (v / 128)) ≤ suc j → length (pick t (v ∷ []) (continued (v % 128) ∷ spelling k (v / 128))) ≤ suc (suc j)
+    go true g = omega arith
+    go false g = omega arith
+
+pub varint-1 : (v : ℕ) → v < 128 → length (varint v) ≤ 1
+unfolding varint
+varint-1 v h = spelling-most 9 0 v h
+
+pub varint-5 : (v : ℕ) → v < 2 ^ 32 → length (varint v) ≤ 5
+unfolding varint
+varint-5 v h = spelling-most 9 4 v (omega arith)
 
 -- what the bytes read so far, worth `value` below `scale`, make of the rest
 abbrev pub finish : ℕ → ℕ → Varint → Varint

@@ -8,12 +8,15 @@ use Rattle.firmware.proofs.load.cancel.Tie as tie
 is-pending-requires : tie.Need-is-pending-requires
 is-pending-requires c κs = search needs
 
+none-pending-requires : tie.Need-none-pending-requires
+none-pending-requires c κs = search needs
+
 keep-requires : tie.Need-keep-requires
 keep-requires c κs = search needs
 
 returns : tie.Need-returns
 unfolding cancels
-returns c = rw (sym (c .before .before .is-pending .ensures) ∙ c .before .if1 .taken) (c .keep .ensures)
+returns c = rw (sym (c .before .before .before .is-pending .ensures) ∙ c .before .before .if1 .taken, ← c .before .none-pending .ensures) (c .keep .ensures)
 
 same-hash-requires : tie.Need-same-hash-requires
 same-hash-requires c κs = search needs
@@ -37,6 +40,7 @@ cancel-spec =
     tie.close
     (tie.spec
     is-pending-requires
+    none-pending-requires
     keep-requires
     returns
     same-hash-requires

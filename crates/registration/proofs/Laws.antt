@@ -1,0 +1,49 @@
+-- Laws of a redirect: what each test of the code says of the definitions.
+use Prim.Native.Nat.{ℕ, _-_, _≤_}
+use mathlib.Core.Path.{_≡_, refl, ap}
+use mathlib.Core.List.{List, [], _∷_}
+use mathlib.Core.Bool.{Bool}
+use mathlib.Core.Option.{some}
+use native.Mathlib.Omega.{arith}
+use lib.ListN.{length, take, drop, length-take, length-drop}
+use Rattle.csmp.specs.Read.{redirectOf}
+use Rattle.csmp.specs.declared.Redirect.{Redirect}
+use Rattle.protobuf.specs.Find.{bytesIn}
+use Rattle.protobuf.specs.declared.Bytes.the-variants.{At, Absent}
+use Rattle.protobuf.proofs.FindLaws.{bytes-within}
+use Rattle.state.specs.Setup.{urlOf}
+use Rattle.state.specs.declared.Device.{Device}
+use Rattle.state.specs.declared.Registration.{Registration}
+use Rattle.state.specs.declared.Url.{Url}
+use Rattle.registration.specs.Redirect.{restarted, isSet, follow, urlIn, redirected}
+
+-- a URL that is there lies in the value
+pub url-inside : (v : List ℕ) (m : Redirect) (start stop : ℕ) → m ≡ redirectOf v → m .url ≡ At start stop → (start ≤ stop) × (stop ≤ length v)
+unfolding redirectOf
+url-inside v m start stop e h =
+    let k : bytesIn v 1 ≡ At start stop = rw e at h in
+    bytes-within v 1 start stop k
+
+module _ (d : Device) (r : Registration) (v : List ℕ) (m : Redirect) (e : m ≡ redirectOf v) where
+  pub redirect-absent : m .url ≡ Absent → redirected d r v ≡ r
+  unfolding redirected urlIn follow
+  redirect-absent h = rw (rw e at h)
+
+  module _ (start stop : ℕ) (h : m .url ≡ At start stop) where
+    pub redirect-empty : start ≡ stop → redirected d r v ≡ r
+    unfolding redirected urlIn follow
+    redirect-empty k =
+        let z : stop - start ≡ 0 = omega arith in
+        rw (rw e at h, z)
+
+    pub redirect-taken : (start ≡ stop → ⊥) → (url : Url) → url ≡ urlOf (take (stop - start) (drop start v)) → (now : Bool) → now ≡ isSet (m .immediate)
+        → redirected d r v ≡ restarted d r url now
+    unfolding redirected urlIn follow
+    redirect-taken k url u now f =
+        let i = url-inside v m start stop e h in
+        rw (rw e at h, f, u, e)
+        (go (take (stop - start) (drop start v)) (simp (length-take, length-drop) (omega arith)))
+      where
+        go : (l : List ℕ) → (length l ≡ 0 → ⊥) → follow d r (some l) (isSet (redirectOf v .immediate)) ≡ restarted d r (urlOf l) (isSet (redirectOf v .immediate))
+        go [] k = absurd (k refl)
+        go (b ∷ bs) k = refl

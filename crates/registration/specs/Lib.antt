@@ -1,0 +1,2 @@
+pub mod Redirect
+pub mod Backoff

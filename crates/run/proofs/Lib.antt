@@ -1,0 +1,4 @@
+pub mod Steps
+pub mod Bounds
+pub mod Walk
+pub mod Laws

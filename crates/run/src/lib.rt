@@ -1,0 +1,84 @@
+// A posted payload: it is judged (steps e to i), and its records then run in their order (step j).
+mod record;
+
+use post::Judgement;
+use schedule::Point;
+use state::Device;
+use state::Images;
+use state::Registration;
+use state::State;
+use tlv::Cursor;
+use tlv::Taken;
+ghost use mathlib.Core.Path.{_≡_};
+ghost use Prim.Native.Nat.{_+_, _*_, _≤_};
+ghost use lib.ListN.{length};
+ghost use Rattle.tlv.specs.Record.{records};
+ghost use Rattle.run.specs.Run.{World, worldOf, RanBy};
+ghost use Rattle.run.specs.Post.{PostedBy, posted};
+
+// What running records changes beside the image buffer, and where their responses end.
+pub struct Ran {
+    pub images: Images,
+    pub registration: Registration,
+    pub end: usize,
+}
+
+// A post's answer: the code of its reply, and what it changed.
+pub struct Posted {
+    pub code: u8,
+    pub ran: Ran,
+}
+
+// Runs the records of a payload one by one, and appends their responses at `at`.
+fn run(device: Device, first: Ran, flash: &mut [u8], payload: &[u8], out: &mut [u8]) -> Ran
+    requires { ⌜ first .end + 48 * length (records (now payload)) ≤ length (now out) ⌝ }
+    ensures { λ r. ⌜ RanBy device (worldOf first (now (flash .entry))) (records (now (payload .entry))) (now (out .entry)) (first .end) r (now (flash .exit)) (now (out .exit)) ⌝ }
+{
+    let mut ran = first;
+    let mut cursor = Cursor { at: 0 };
+    while cursor.at < payload.len() {
+        let Taken::Record(r) = cursor.take(payload) else {
+            return ran;
+        };
+        let start = r.start;
+        let end = r.end;
+        ran = record::run_record(device, ran, flash, r.kind, &payload[start..end], out);
+        cursor = Cursor { at: end };
+    }
+    ran
+}
+
+// Steps e to j. Responses are appended at `at`; on an error nothing changes.
+pub fn post(
+    state: State,
+    flash: &mut [u8],
+    payload: &[u8],
+    time: Point,
+    verdict: u8,
+    out: &mut [u8],
+    at: usize,
+) -> Posted
+    requires { ⌜ at + 1152 ≤ length (now out) ⌝ }
+    ensures { λ r. ⌜ PostedBy (posted (state .device) (state .assigned .groups) (record { images = state .images; registration = state .registration; flash = now (flash .entry) }) (now (payload .entry)) time verdict) (now (out .entry)) at r (now (flash .exit)) (now (out .exit)) ⌝ }
+{
+    let device = state.device;
+    let groups = state.assigned.groups;
+    let images = state.images;
+    let registration = state.registration;
+    let first = Ran {
+        images,
+        registration,
+        end: at,
+    };
+    let seen = post::look(payload, groups, time);
+    match post::judge(seen, verdict, device.signed_posts) {
+        Judgement::Error(code) => Posted { code, ran: first },
+        Judgement::Run => created(run(device, first, flash, payload, out)),
+    }
+}
+
+fn created(ran: Ran) -> Posted
+    ensures { λ r. ⌜ r ≡ record { code = 65; ran = ran } ⌝ }
+{
+    Posted { code: 65, ran }
+}
