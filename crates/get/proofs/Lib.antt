@@ -1,0 +1,4 @@
+pub mod OwnLaws
+pub mod CopyLaws
+pub mod IndexLaws
+pub mod GetLaws

@@ -1,0 +1,4 @@
+pub mod Shown
+pub mod Own
+pub mod Index
+pub mod Get
