@@ -1,0 +1,5 @@
+pub mod Class
+pub mod Datagram
+pub mod Boot
+pub mod Made
+pub mod Merge

@@ -1,0 +1,149 @@
+// Plays datagrams through the agent's calls, and prints a line for each record on standard input.
+//
+// A record of type 0 is a datagram behind its time (four bytes) and the host's verdict (one). The others prepare the
+// device: 1 sets it up anew, with the values that document 01 gives the listing program; 2 is the host's store from
+// then on; 3 has the groups held, four bytes of type and four of id each, at most 8; 4 the report held, as record 13
+// has it. A line has the record's number, then outcome, length and reply, or what was set and how long its value is.
+mod assign;
+mod show;
+
+use libc::STDIN_FILENO;
+use schedule::Length;
+use schedule::Point;
+use state::Settings;
+use state::Setup;
+use state::State;
+use tlv::Cursor;
+use tlv::Record;
+use tlv::Taken;
+
+fn set_up() -> Setup {
+    let settings = Settings {
+        image_len: 4096,
+        interval_min: Length(300),
+        interval_max: Length(3600),
+        message_id: 0,
+        signed_posts: false,
+        signed_responses: false,
+    };
+    let running = [0u8; 32];
+    agent::setup(b"A1", b"", &running, b"coap://n", settings)
+}
+
+// Sets the device up anew, over an image buffer of zeros.
+fn renew(image: &mut [u8; 4096]) -> State {
+    *image = [0; 4096];
+    let made = set_up();
+    show::given(b" setup", made.outcome as usize);
+    made.state
+}
+
+// A datagram behind its time and its verdict.
+fn receive(state: State, image: &mut [u8; 4096], store: &[u8], v: &[u8]) -> State {
+    if v.len() < 5 {
+        return state;
+    }
+    let time = Point(assign::number(v));
+    let mut out = [0u8; 1280];
+    let answer = agent::datagram(state, image, &mut out, &v[5..], store, time, v[4]);
+    show::answer(answer, &out);
+    answer.state
+}
+
+// The host's store: told, and kept by the caller.
+fn hold(state: State, v: &[u8]) -> State {
+    show::given(b" store", v.len());
+    state
+}
+
+fn hold_groups(state: State, v: &[u8]) -> State {
+    show::given(b" groups", v.len());
+    assign::with_groups(state, v)
+}
+
+fn hold_report(state: State, v: &[u8]) -> State {
+    show::given(b" report", v.len());
+    assign::with_report(state, v)
+}
+
+fn act(state: State, image: &mut [u8; 4096], store: &[u8], kind: u64, v: &[u8]) -> State {
+    match kind {
+        0 => receive(state, image, store, v),
+        1 => renew(image),
+        2 => hold(state, v),
+        3 => hold_groups(state, v),
+        4 => hold_report(state, v),
+        _ => state,
+    }
+}
+
+// A record's value.
+fn value(s: &[u8], r: Record) -> &[u8] {
+    let start = r.start;
+    let end = r.end;
+    if start <= end {
+        if end <= s.len() {
+            return &s[start..end];
+        }
+    }
+    &s[..0]
+}
+
+// The record that holds the store, behind the record `r`.
+fn stored(store: Record, r: Record) -> Record {
+    if r.kind == 2 {
+        return r;
+    }
+    store
+}
+
+// A record, and its line.
+fn play_record(
+    state: State,
+    image: &mut [u8; 4096],
+    s: &[u8],
+    store: Record,
+    r: Record,
+    n: u64,
+    images: bool,
+) -> State {
+    show::number(n);
+    let next = act(state, image, value(s, store), r.kind, value(s, r));
+    if images {
+        show::images(next.images);
+        show::checksum(image);
+    }
+    show::word(b"\n");
+    next
+}
+
+fn play(s: &[u8], images: bool) {
+    let mut image = [0u8; 4096];
+    let made = set_up();
+    let mut state = made.state;
+    let mut store = Record {
+        kind: 2,
+        start: 0,
+        end: 0,
+    };
+    let mut cursor = Cursor { at: 0 };
+    let mut n = 0;
+    while cursor.at < s.len() {
+        let Taken::Record(r) = cursor.take(s) else {
+            show::word(b"unreadable\n");
+            return;
+        };
+        store = stored(store, r);
+        state = play_record(state, &mut image, s, store, r, n, images);
+        cursor = Cursor { at: r.end };
+        n += 1;
+    }
+}
+
+// Reads the records and plays them; `images` asks for the open image and the image buffer after each.
+pub fn run(images: bool) {
+    let mut space = [0u8; 65536];
+    let n = io::read_full(STDIN_FILENO, &mut space);
+    show::header(images);
+    play(&space[..n], images);
+}
