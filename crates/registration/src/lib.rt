@@ -11,7 +11,7 @@ pub use wait::double;
 pub use wait::first_wait;
 pub use wait::rest_of;
 ghost use mathlib.Core.Path.{_≡_};
-ghost use Rattle.registration.specs.Redirect.{restarted, isSet, redirected};
+ghost use Rattle.registration.specs.Redirect.{restarted, isSet, followed, urlIn, redirected};
 
 // Registration starts again: not accepted, no round awaited, the smallest interval. The message id goes on.
 pub fn restart(
@@ -42,6 +42,18 @@ fn is_set(flag: Flag) -> bool
         return false;
     };
     b
+}
+
+// Whether a redirect is followed: one with no or an empty URL is ignored.
+pub fn is_followed(v: &[u8]) -> bool
+    ensures { λ r. ⌜ r ≡ followed (urlIn (now (v .entry))) ⌝ }
+{
+    let r = csmp::read_redirect(v);
+    let place = r.url;
+    let Bytes::At(start, end) = place else {
+        return false;
+    };
+    start != end
 }
 
 // What a NetworkRedirect does: registration starts again at its URL. One with no or an empty URL is ignored.

@@ -1,0 +1,74 @@
+-- When an acknowledgement is taken, and what it then does, document 01, "Registration and reports".
+use Prim.Native.Nat.{ℕ}
+use mathlib.Core.List.{List}
+use mathlib.Core.Bool.{Bool, true, false, not, _&&_}
+use lib.Dec.{eqb}
+use Rattle.buffer.specs.Pick.{pick}
+use Rattle.post.specs.Judge.{badlySigned}
+use Rattle.schedule.specs.declared.Point.{Point}
+use Rattle.state.specs.declared.Assigned.{Assigned}
+use Rattle.state.specs.declared.Groups.{Groups}
+use Rattle.state.specs.declared.Registration.{Registration}
+use Rattle.state.specs.declared.State.{State}
+use Rattle.ack.specs.Learn.{learntFrom}
+use Rattle.ack.specs.declared.note.Learnt.{Learnt}
+
+-- whose id is the latest round's, not yet accepted
+unfoldable pub isAwaited : Registration → ℕ → Bool
+isAwaited r id = not (r .accepted) && (r .awaited && eqb (r .round) id)
+
+-- readable, and passing f (with the setting for responses) and g
+unfoldable pub isTakable : Learnt → ℕ → Bool → Bool
+isTakable l verdict required = l .readable && (not (badlySigned (l .signed) verdict required) && not (l .expired))
+
+-- its complete GroupAssigns, if any, in order replace all groups held
+abbrev pub withGroups : Assigned → Groups → Assigned
+withGroups a g =
+    record {
+      groups = g;
+      «in_session» = a .«in_session»;
+      session = a .session;
+      reporting = a .reporting;
+      interval = a .interval;
+      ids = a .ids;
+      heartbeat = a .heartbeat;
+      «heartbeat_ids» = a .«heartbeat_ids»;
+    }
+
+unfoldable pub regrouped : Learnt → Assigned
+regrouped l = pick (eqb (l .groups .count) 0) (l .assigned) (withGroups (l .assigned) (l .groups))
+
+-- it is accepted, and any session, groups and report are stored
+unfoldable pub acceptedBy : State → Learnt → State
+acceptedBy s l =
+    record {
+      device = s .device;
+      images = s .images;
+      assigned = regrouped l;
+      registration =
+          record {
+            accepted = true;
+            awaited = s .registration .awaited;
+            round = s .registration .round;
+            interval = s .registration .interval;
+            immediate = s .registration .immediate;
+            url = s .registration .url;
+            «message_id» = s .registration .«message_id»;
+          };
+    }
+
+-- with a redirect only that is done, and registration restarts
+unfoldable pub takenBy : State → Learnt → State
+takenBy s l =
+    pick (l .redirected)
+    (record { device = s .device; images = s .images; assigned = s .assigned; registration = l .registration })
+    (acceptedBy s l)
+
+-- all others change nothing
+unfoldable pub acknowledged : State → ℕ → List ℕ → Point → ℕ → State
+acknowledged s id p time verdict =
+    pick (isAwaited (s .registration) id)
+    (pick (isTakable (learntFrom (s .device) (s .registration) (s .assigned) time p) verdict (s .device .«signed_responses»))
+    (takenBy s (learntFrom (s .device) (s .registration) (s .assigned) time p))
+    s)
+    s

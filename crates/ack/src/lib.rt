@@ -1,0 +1,120 @@
+// The acknowledgement of a registration: what it assigns, or where it redirects to.
+mod note;
+
+use note::Learnt;
+use schedule::Point;
+use state::Assigned;
+use state::Device;
+use state::Registration;
+use state::State;
+use tlv::Cursor;
+use tlv::Taken;
+ghost use mathlib.Core.Path.{_≡_};
+ghost use Rattle.ack.specs.Learn.{learntFrom};
+ghost use Rattle.ack.specs.Take.{regrouped, isAwaited, isTakable, acceptedBy, takenBy, acknowledged};
+
+// What there is to learn from an acknowledgement's payload.
+fn learn(
+    device: Device,
+    registration: Registration,
+    assigned: Assigned,
+    payload: &[u8],
+    time: Point,
+) -> Learnt
+    ensures { λ r. ⌜ r ≡ learntFrom device registration assigned time (now (payload .entry)) ⌝ }
+{
+    let mut learnt = note::nothing(registration, assigned);
+    let mut cursor = Cursor { at: 0 };
+    while cursor.at < payload.len() {
+        let Taken::Record(r) = cursor.take(payload) else {
+            return note::mark(learnt, false);
+        };
+        let start = r.start;
+        let end = r.end;
+        learnt = note::note(device, learnt, r.kind, &payload[start..end], time);
+        cursor = Cursor { at: end };
+    }
+    learnt
+}
+
+// Its groups, if it has any, replace all that were held.
+fn regroup(learnt: Learnt) -> Assigned
+    ensures { λ r. ⌜ r ≡ regrouped learnt ⌝ }
+{
+    let mut next = learnt.assigned;
+    let groups = learnt.groups;
+    if groups.count == 0 {
+        return next;
+    }
+    next.groups = groups;
+    next
+}
+
+// It answers the latest round, and registration is not accepted yet.
+fn is_awaited(registration: Registration, id: u16) -> bool
+    ensures { λ r. ⌜ r ≡ isAwaited registration id ⌝ }
+{
+    if registration.accepted {
+        return false;
+    }
+    if !registration.awaited {
+        return false;
+    }
+    registration.round == id
+}
+
+// Readable, signed as the setting for responses asks, and valid now.
+fn is_takable(learnt: Learnt, verdict: u8, required: bool) -> bool
+    ensures { λ r. ⌜ r ≡ isTakable learnt verdict required ⌝ }
+{
+    if !learnt.readable {
+        return false;
+    }
+    if post::badly_signed(learnt.signed, verdict, required) {
+        return false;
+    }
+    !learnt.expired
+}
+
+// Accepted: what was assigned is stored.
+fn accept(state: State, learnt: Learnt) -> State
+    ensures { λ r. ⌜ r ≡ acceptedBy state learnt ⌝ }
+{
+    let assigned = regroup(learnt);
+    let mut registration = state.registration;
+    registration.accepted = true;
+    let mut next = state;
+    next.assigned = assigned;
+    next.registration = registration;
+    next
+}
+
+// With a redirect only that is done.
+fn take(state: State, learnt: Learnt) -> State
+    ensures { λ r. ⌜ r ≡ takenBy state learnt ⌝ }
+{
+    if !learnt.redirected {
+        return accept(state, learnt);
+    }
+    let registration = learnt.registration;
+    let mut next = state;
+    next.registration = registration;
+    next
+}
+
+// An ACK 2.03 with a message id: taken, or nothing changes.
+pub fn acknowledge(state: State, id: u16, payload: &[u8], time: Point, verdict: u8) -> State
+    ensures { λ r. ⌜ r ≡ acknowledged state id (now (payload .entry)) time verdict ⌝ }
+{
+    let device = state.device;
+    let registration = state.registration;
+    let assigned = state.assigned;
+    if !is_awaited(registration, id) {
+        return state;
+    }
+    let learnt = learn(device, registration, assigned, payload, time);
+    if !is_takable(learnt, verdict, device.signed_responses) {
+        return state;
+    }
+    take(state, learnt)
+}
