@@ -20,7 +20,7 @@ pub fn silent(outcome: u32, state: State) -> Answer
 }
 
 // A reset is written.
-pub fn reset(outcome: u32, state: State, out: &mut [u8], id: u16) -> Answer
+pub(crate) fn reset(outcome: u32, state: State, out: &mut [u8], id: u16) -> Answer
     requires { ⌜ 1280 ≤ length (now out) ⌝ }
     ensures { λ r. ⌜ Sent outcome (reset id) state (now (out .entry)) r (now (out .exit)) ⌝ }
 {
@@ -33,7 +33,7 @@ pub fn reset(outcome: u32, state: State, out: &mut [u8], id: u16) -> Answer
 }
 
 // An acknowledgement is written: its head, and the payload if there is one.
-pub fn send(out: &mut [u8], code: u8, id: u16, body: &[u8]) -> usize
+pub(crate) fn send(out: &mut [u8], code: u8, id: u16, body: &[u8]) -> usize
     requires { ⌜ (1280 ≤ length (now out)) × (length (now body) ≤ 1273) ⌝ }
     ensures { λ r. ⌜ (now (out .exit) ≡ sets (now (out .entry)) 0 (replyOf code id (now (body .entry)))) × (r ≡ length (replyOf code id (now (body .entry)))) × (r ≤ 1280) ⌝ }
 {

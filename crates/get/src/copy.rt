@@ -76,7 +76,13 @@ fn copy_records(s: &[u8], id: u64, out: &mut [u8], at: usize) -> usize
 }
 
 // Appends what there is of an id.
-pub fn copy_shown<'a>(store: &'a [u8], own: &'a [u8], id: u32, out: &mut [u8], at: usize) -> usize
+pub(crate) fn copy_shown<'a>(
+    store: &'a [u8],
+    own: &'a [u8],
+    id: u32,
+    out: &mut [u8],
+    at: usize,
+) -> usize
     requires { ⌜ at ≤ length (now out) + 1 ⌝ }
     ensures { λ r. ⌜ Appended (now (out .entry)) at (shownOf (now (store .entry)) (now (own .entry)) id) (now (out .exit)) r ⌝ }
 {

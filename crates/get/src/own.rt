@@ -109,7 +109,7 @@ fn put_images(images: Images, out: &mut [u8], at: usize) -> usize
 }
 
 // All of them, at the front of a buffer that has room.
-pub fn put_own(state: State, time: Point, out: &mut [u8]) -> usize
+pub(crate) fn put_own(state: State, time: Point, out: &mut [u8]) -> usize
     requires { ⌜ length (now out) ≡ 4096 ⌝ }
     ensures { λ r. ⌜ (r ≤ 4096) × (take r (now (out .exit)) ≡ ownRecords state time) ⌝ }
 {

@@ -99,7 +99,7 @@ fn run_redirect(device: Device, ran: Ran, v: &[u8]) -> Ran
 }
 
 // One record: others than these do nothing here.
-pub fn run_record(
+pub(crate) fn run_record(
     device: Device,
     ran: Ran,
     flash: &mut [u8],
