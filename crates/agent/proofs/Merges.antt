@@ -31,16 +31,16 @@ use Rattle.state.specs.declared.Registration.{Registration}
 use Rattle.tlv.specs.Record.{Tlv}
 use Rattle.transfer.specs.Block.{Flash, Offer, Sound, isHash, offered, putBlock, takeBlock}
 use Rattle.transfer.specs.Merge.{Merge, none as neither, first, second, putAll, Agreeing, Ended}
-use Rattle.transfer.proofs.Puts.{put-hash, put-length}
+use Rattle.transfer.proofs.Puts.{both, put-hash, put-length}
 use Rattle.transfer.proofs.Merges.{merges}
 use Rattle.transfer.proofs.Ends.{ends, ends-none}
-use Rattle.agent.specs.Class.{classOf}
+use Rattle.agent.specs.Class.{isRequest, classOf}
 use Rattle.agent.specs.Datagram.{Call, Effect, Served, refusalOf, refusal, worldIn, withWorld, servedPost, servedAs, served, replied, classed, received, datagramOf}
 use Rattle.agent.specs.Made.{Sized}
 use Rattle.agent.proofs.Sizes.{made-sized}
 use Rattle.agent.specs.Merge.{Kept, after, afterAll, runsJudged, runsAsked, runsClassed, runsFramed, runs, steers, anySteers, framesPost, feeds, Feed, withOffer, offers, brought, flashOf, keptWith, Merged, Demand3}
 use Rattle.agent.specs.declared.class.Class.{Class}
-use Rattle.agent.specs.declared.class.Class.the-variants.{Request, Rejected, Ignored}
+use Rattle.agent.specs.declared.class.Class.the-variants.{Request, Acknowledgement, Rejected, Ignored}
 
 -- blocks put after others
 put-append : (xs ys : List Offer) (f : Flash) → putAll (xs ++ ys) f ≡ putAll ys (putAll xs f)
@@ -143,7 +143,16 @@ fed d w (t ∷ ts) o h =
     (λ e. rw (taken d w t e o, e) (block d ts w (t .value) (offered (w .images .image) (t .value)) refl (λ n q. fed d n ts (q ∙ o) r)))
     (λ e. rw (skipped d w t a e, e) (fed d w ts o r))
 
--- a call changes what the records that it runs change, and no more
+-- a post is no acknowledgement
+post-class : (kind code : ℕ) → eqb code 2 ≡ true → classOf kind code ≡ Acknowledgement → ⊥
+unfolding classOf isRequest
+post-class kind code e h = go (ltb kind 2) (rw (eqb-true code 2 e) at h)
+  where
+    go : (t : Bool) → pick t Request Ignored ≡ Acknowledgement → ⊥
+    go true h = let z : _≡_ {A = ℕ} 0 1 = cc in omega arith
+    go false h = let z : _≡_ {A = ℕ} 0 1 = cc in omega arith
+
+-- a call of a feed changes what the records that it runs change, and no more
 abbrev ranIn : Kept → List Tlv → Kept
 ranIn k ts =
     record {
@@ -173,34 +182,40 @@ module _ (k : Kept) (c : Call) where
   by-asks p ids (Record id) = refl
   by-asks p ids Records = refl
 
-  by-class : (f : Frame) (l : Class)
+  by-class : (f : Frame) (l : Class) → (l ≡ Acknowledgement → ⊥)
       → keptIn (classed (k .state) (k .image) (c .store) (c .bytes) f (c .time) (c .verdict) l) ≡ ranIn k (runsClassed (k .state .device) (k .state .assigned .groups) c f l)
   unfolding ran classed replied served
-  by-class f Request = by-asks (drop (f .payload) (c .bytes)) (held (requestOf (c .bytes) f .ids)) (requestOf (c .bytes) f .asks)
-  by-class f Rejected = refl
-  by-class f Ignored = refl
+  by-class f Request h = by-asks (drop (f .payload) (c .bytes)) (held (requestOf (c .bytes) f .ids)) (requestOf (c .bytes) f .asks)
+  by-class f Acknowledgement h = absurd (h refl)
+  by-class f Rejected h = refl
+  by-class f Ignored h = refl
 
-  by-frame : (m : Datagram)
-      → keptIn (received (k .state) (k .image) (c .store) (c .bytes) (c .time) (c .verdict) m) ≡ ranIn k (runsFramed (k .state .device) (k .state .assigned .groups) c m)
-  unfolding ran received
-  by-frame (Whole f) = by-class f (classOf (f .kind) (f .code))
-  by-frame (Malformed kind id) = refl
-  by-frame Foreign = refl
-
-  after-runs : after k c ≡ ranIn k (runs k c)
-  unfolding ran datagramOf runs
-  after-runs =
-      split (eqb (refusal (k .state) (k .image) c) 0)
-      (λ e. rw e (by-frame (frameOf (c .bytes))))
-      (λ e. rw e)
-
-  -- a refused call runs nothing
+  -- a frame that can be read is not refused
   whole-outcome : (f : Frame) (l : Class) → classed (k .state) (k .image) (c .store) (c .bytes) f (c .time) (c .verdict) l .outcome ≡ 0
   unfolding classed replied
   whole-outcome f Request = refl
+  whole-outcome f Acknowledgement = refl
   whole-outcome f Rejected = refl
   whole-outcome f Ignored = refl
 
+  by-frame : (m : Datagram) (b : Bool)
+      → (not (eqb (received (k .state) (k .image) (c .store) (c .bytes) (c .time) (c .verdict) m .outcome) 0) || (framesPost m && b)) ≡ true
+      → keptIn (received (k .state) (k .image) (c .store) (c .bytes) (c .time) (c .verdict) m) ≡ ranIn k (runsFramed (k .state .device) (k .state .assigned .groups) c m)
+  unfolding ran received
+  by-frame (Whole f) b h =
+      let t = both (eqb (f .code) 2) b (rw (whole-outcome f (classOf (f .kind) (f .code))) at h) in
+      by-class f (classOf (f .kind) (f .code)) (post-class (f .kind) (f .code) (t .0))
+  by-frame (Malformed kind id) b h = refl
+  by-frame Foreign b h = refl
+
+  after-runs : feeds k c ≡ true → after k c ≡ ranIn k (runs k c)
+  unfolding ran datagramOf runs feeds
+  after-runs h =
+      split (eqb (refusal (k .state) (k .image) c) 0)
+      (λ e. rw e (by-frame (frameOf (c .bytes)) _ (rw e at h)))
+      (λ e. rw e)
+
+  -- a refused call runs nothing
   refused-frame : (m : Datagram) → eqb (received (k .state) (k .image) (c .store) (c .bytes) (c .time) (c .verdict) m .outcome) 0 ≡ false
       → runsFramed (k .state .device) (k .state .assigned .groups) c m ≡ []
   unfolding received
@@ -236,10 +251,28 @@ module _ (k : Kept) (o : k .state .images .«open» ≡ true) where
   unfolding runs refusal
   runs-same f c e = rw e
 
+  -- and so does whether it is one of a feed
+  outcome-frame : (f : Flash) (c : Call) (m : Datagram)
+      → received (keptWith k f .state) (f .bytes) (c .store) (c .bytes) (c .time) (c .verdict) m .outcome ≡ received (k .state) (k .image) (c .store) (c .bytes) (c .time) (c .verdict) m .outcome
+  unfolding received
+  outcome-frame f c (Whole g) = whole-outcome (keptWith k f) c g (classOf (g .kind) (g .code)) ∙ sym (whole-outcome k c g (classOf (g .kind) (g .code)))
+  outcome-frame f c (Malformed kind id) = refl
+  outcome-frame f c Foreign = refl
+
+  outcome-same : (f : Flash) (c : Call) → length (f .bytes) ≡ length (k .image)
+      → datagramOf (keptWith k f .state) (f .bytes) c .outcome ≡ datagramOf (k .state) (k .image) c .outcome
+  unfolding datagramOf refusal
+  outcome-same f c e =
+      rw e (split (eqb (refusal (k .state) (k .image) c) 0) (λ z. rw z (outcome-frame f c (frameOf (c .bytes)))) (λ z. rw z))
+
+  feeds-same : (f : Flash) (c : Call) → length (f .bytes) ≡ length (k .image) → feeds (keptWith k f) c ≡ feeds k c
+  unfolding feeds
+  feeds-same f c e = rw (outcome-same f c e, runs-same f c e)
+
   fed-call : (f : Flash) (c : Call) → length (f .bytes) ≡ length (k .image) → f .image .hash ≡ k .state .images .image .hash → feeds k c ≡ true
       → after (keptWith k f) c ≡ keptWith k (putAll (offers (k .state .images .image) (runs k c)) f)
   fed-call f c e g h =
-      after-runs (keptWith k f) c
+      after-runs (keptWith k f) c (feeds-same f c e ∙ h)
       ∙ rw (runs-same f c e, fed (k .state .device) (withFlash (worldIn (k .state) (k .image)) f) (runs k c) o (steady k c h), offers-by (f .image) (k .state .images .image) (runs k c) g)
 
   fed-all : (cs : List Call) (f : Flash) → length (f .bytes) ≡ length (k .image) → f .image .hash ≡ k .state .images .image .hash → Feed k cs

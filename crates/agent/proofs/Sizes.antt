@@ -7,15 +7,14 @@ use mathlib.Core.Option.{Option, none, some}
 use native.Mathlib.Omega.{arith}
 use borrow.Author.Tests.{ltb-true, ltb-false, leb-true, eqb-true, eqb-false, not-true}
 use lib.Dec.{eqb, ltb, leb}
-use lib.ListN.{length, take, drop, getD, replicate, length-take, getD-replicate}
+use lib.ListN.{length, take, drop, getD, replicate, getD-replicate}
 use lib.Seq.{length-sets}
-use Rattle.buffer.specs.Pick.{pick}
 use Rattle.buffer.specs.Same.{sameBytes}
 use Rattle.coap.specs.Frame.{frameOf}
 use Rattle.coap.specs.declared.Datagram.{Datagram}
 use Rattle.coap.specs.declared.Datagram.the-variants.{Frame as Whole, Malformed, Foreign}
 use Rattle.coap.specs.declared.Frame.{Frame}
-use Rattle.csmp.specs.Read.{atMost, plain, redirectOf, transferOf, loadOf, hashOf}
+use Rattle.csmp.specs.Read.{atMost, redirectOf, transferOf, loadOf, hashOf}
 use Rattle.csmp.specs.declared.Image.{Image}
 use Rattle.csmp.specs.declared.Transfer.{Transfer}
 use Rattle.firmware.specs.Load.{withPending, isOpen, isPending, openFault, sourceFault, pendingFault, loads, loadsAt, loadAnswered, cancels, cancelAnswered, backs, backupAnswered, booted}
@@ -26,11 +25,10 @@ use Rattle.post.specs.Judge.{lookedAt, judged}
 use Rattle.post.specs.Value.{isReadable}
 use Rattle.post.specs.declared.Judgement.{Judgement}
 use Rattle.post.specs.declared.Judgement.the-variants.{Error as Refused, Run}
-use Rattle.protobuf.specs.Find.{bytesIn}
-use Rattle.protobuf.specs.Statements.{Each, IfAny, bytesGiven}
+use Rattle.protobuf.specs.Statements.{Each}
 use Rattle.protobuf.specs.declared.Bytes.{Bytes}
 use Rattle.protobuf.specs.declared.Bytes.the-variants.{At, Absent}
-use Rattle.registration.specs.Redirect.{restarted, isSet, follow, urlIn, redirected}
+use Rattle.registration.specs.Redirect.{restarted}
 use Rattle.decimal.specs.Ids.{held as listed}
 use Rattle.request.specs.Request.{requestOf}
 use Rattle.request.specs.declared.Asks.{Asks}
@@ -45,7 +43,6 @@ use Rattle.state.specs.Setup.{hwIdOf, urlOf, hashOf as runningOf, within, valid
 use Rattle.state.specs.declared.Device.{Device}
 use Rattle.state.specs.declared.Groups.{Groups}
 use Rattle.state.specs.declared.Images.{Images}
-use Rattle.state.specs.declared.Registration.{Registration}
 use Rattle.state.specs.declared.State.{State}
 use Rattle.state.specs.declared.setup.Settings.{Settings}
 use Rattle.state.specs.declared.setup.Setup.{Setup}
@@ -58,14 +55,11 @@ use Rattle.transfer.proofs.Puts.{both, fits-told, put-cases}
 use Rattle.agent.specs.Boot.{bootOf}
 use Rattle.agent.specs.Class.{classOf}
 use Rattle.agent.specs.Datagram.{Call, Effect, worldIn, refusal, servedAs, served, replied, classed, received, datagramOf}
-use Rattle.agent.specs.Made.{Made, set, called, booted as reborn, Between, DeviceSized, OpenSized, ImagesSized, RegistrationSized, Sized, MadeSized}
+use Rattle.agent.specs.Made.{Made, set, called, rounded, reported, booted as reborn, Between, DeviceSized, OpenSized, ImagesSized, RegistrationSized, Sized, MadeSized}
+use Rattle.agent.proofs.OwnSizes.{round-sized, report-sized}
+use Rattle.agent.proofs.AckSizes.{pick-both, redirect-sized, acknowledged-sized}
 use Rattle.agent.specs.declared.class.Class.{Class}
-use Rattle.agent.specs.declared.class.Class.the-variants.{Request, Rejected, Ignored}
-
--- what holds of both answers holds of the one picked
-pick-both : {A : Type 0} (P : A → Type 0) (t : Bool) (a b : A) → (t ≡ true → P a) → (t ≡ false → P b) → P (pick t a b)
-pick-both P true a b f g = f refl
-pick-both P false a b f g = g refl
+use Rattle.agent.specs.declared.class.Class.the-variants.{Request, Acknowledgement, Rejected, Ignored}
 
 neither : (t u : Bool) → (t || u) ≡ false → (t ≡ false) × (u ≡ false)
 neither true u e = absurd (true≢false e)
@@ -277,28 +271,6 @@ module _ (d : Device) (i : Image) (bs : List ℕ) (s : OpenSized d i) where
   unfolding takeBlock
   take-sized v = offer-sized (offered i v)
 
--- record 6: a URL that can be read has at most 128 bytes
-url-short : (v : List ℕ) (b : Bytes) → atMost 128 b ≡ true → IfAny (λ (l : List ℕ). length l ≤ 128) (bytesGiven v b)
-unfolding atMost
-url-short v (At start stop) h =
-    let k = leb-true (stop - start) 128 h in
-    simp length-take (omega arith)
-url-short v Absent h = tt
-
-module _ (d : Device) (r : Registration) (k : DeviceSized d) (s : RegistrationSized d r) where
-  follow-sized : (url : Option (List ℕ)) (immediate : Bool) → IfAny (λ (l : List ℕ). length l ≤ 128) url
-      → RegistrationSized d (follow d r url immediate)
-  unfolding follow restarted urlOf
-  follow-sized none immediate h = s
-  follow-sized (some []) immediate h = s
-  follow-sized (some (b ∷ bs)) immediate h = record { url = (omega arith, h); interval = (omega arith, k .low .1) }
-
-  redirect-sized : (v : List ℕ) → redirectOf v .readable ≡ true → RegistrationSized d (redirected d r v)
-  unfolding redirected urlIn redirectOf
-  redirect-sized v h =
-      let t = both (plain v) (atMost 128 (bytesIn v 1)) h in
-      follow-sized (bytesGiven v (bytesIn v 1)) (isSet (redirectOf v .immediate)) (url-short v (bytesIn v 1) (t .1))
-
 -- what records may change
 record WorldSized (d : Device) (w : World) : Type 0 where
   images : ImagesSized d (w .images)
@@ -377,6 +349,7 @@ module _ (s : State) (image : List ℕ) (sized : Sized s) where
   classed-sized : (store bytes : List ℕ) (f : Frame) (time : Point) (verdict : ℕ) (c : Class) → Sized (classed s image store bytes f time verdict c .state)
   unfolding classed replied served
   classed-sized store bytes f time verdict Request = served-sized store (drop (f .payload) bytes) time verdict (listed (requestOf bytes f .ids)) (requestOf bytes f .asks)
+  classed-sized store bytes f time verdict Acknowledgement = acknowledged-sized s sized (f .id) (drop (f .payload) bytes) time verdict
   classed-sized store bytes f time verdict Rejected = sized
   classed-sized store bytes f time verdict Ignored = sized
 
@@ -412,6 +385,8 @@ boot-sized s k =
 made : {s : State} → Made s → Sized s
 made (set hw vendor running url s e) = setup-sized hw vendor running url s e
 made (called {s} m image c) = datagram-sized s image (made m) c
+made (rounded {s} m out store time) = round-sized s out store time (made m)
+made (reported {s} m out store time which) = report-sized s out store time which (made m)
 made (reborn {s} m) = boot-sized s (made m)
 
 pub made-sized : MadeSized

@@ -1,5 +1,6 @@
 pub mod Class
 pub mod Datagram
+pub mod Own
 pub mod Boot
 pub mod Made
 pub mod Merge

@@ -5,6 +5,8 @@ use mathlib.Core.List.{List}
 use mathlib.Core.Bool.{true, false}
 use lib.ListN.{length}
 use Rattle.csmp.specs.declared.Image.{Image}
+use Rattle.outgoing.specs.declared.sent.Report.{Report}
+use Rattle.schedule.specs.declared.Point.{Point}
 use Rattle.state.specs.Setup.{setupOf}
 use Rattle.state.specs.declared.Assigned.{Assigned}
 use Rattle.state.specs.declared.Device.{Device}
@@ -16,12 +18,15 @@ use Rattle.transfer.specs.Bitmap.{held}
 use Rattle.transfer.specs.Blocks.{blocks}
 use Rattle.agent.specs.Boot.{bootOf}
 use Rattle.agent.specs.Datagram.{Call, datagramOf}
+use Rattle.agent.specs.Own.{roundOf, reportOf}
 
 -- only setup and calls make states
 pub data Made : State → Type 0 where
   set : (hw vendor running url : List ℕ) (s : Settings) → setupOf hw vendor running url s .outcome ≡ 0
       → Made (setupOf hw vendor running url s .state)
   called : {s : State} → Made s → (image : List ℕ) (c : Call) → Made (datagramOf s image c .state)
+  rounded : {s : State} → Made s → (out : ℕ) (store : List ℕ) (time : Point) → Made (roundOf s out store time .state)
+  reported : {s : State} → Made s → (out : ℕ) (store : List ℕ) (time : Point) (which : Report) → Made (reportOf s out store time which .state)
   booted : {s : State} → Made s → Made (bootOf s)
 
 abbrev pub Between : ℕ → ℕ → ℕ → Type 0

@@ -31,7 +31,7 @@ use Rattle.agent.specs.Class.{classOf}
 use Rattle.agent.specs.Datagram.{Call, refusal, worldIn, withWorld, datagramOf}
 use Rattle.agent.specs.Made.{Made}
 use Rattle.agent.specs.declared.class.Class.{Class}
-use Rattle.agent.specs.declared.class.Class.the-variants.{Request, Rejected, Ignored}
+use Rattle.agent.specs.declared.class.Class.the-variants.{Request, Acknowledgement, Rejected, Ignored}
 
 -- the state and the image buffer, from call to call
 pub record Kept : Type 0 where
@@ -59,6 +59,7 @@ runsAsked d g c p Records = []
 
 abbrev pub runsClassed : Device → Groups → Call → Frame → Class → List Tlv
 runsClassed d g c f Request = runsAsked d g c (drop (f .payload) (c .bytes)) (requestOf (c .bytes) f .asks)
+runsClassed d g c f Acknowledgement = []
 runsClassed d g c f Rejected = []
 runsClassed d g c f Ignored = []
 

@@ -1,2 +1,3 @@
 pub mod Redirect
 pub mod Backoff
+pub mod Round

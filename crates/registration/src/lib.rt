@@ -1,8 +1,11 @@
-// Registration: what starts it again, and how long it waits.
+// Registration: what starts it again, how long it waits, what its datagrams change.
+mod round;
 mod wait;
 
 use protobuf::Bytes;
 use protobuf::Flag;
+pub use round::take_id;
+pub use round::take_round;
 use state::Device;
 use state::Registration;
 use state::Url;

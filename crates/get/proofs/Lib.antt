@@ -1,4 +1,0 @@
-pub mod OwnLaws
-pub mod CopyLaws
-pub mod IndexLaws
-pub mod GetLaws

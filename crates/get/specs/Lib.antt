@@ -1,4 +1,0 @@
-pub mod Shown
-pub mod Own
-pub mod Index
-pub mod Get

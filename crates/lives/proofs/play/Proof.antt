@@ -1,0 +1,64 @@
+-- `play` is safe and ends: the next line begins behind this one's begin.
+use Prim.Native.Nat.{_-_}
+use mathlib.Core.Path.{_≡_}
+use lib.ListN.{length}
+use borrow.Author.Needs.{needs}
+use Rattle.lives.proofs.play.Statement.{statement}
+use Rattle.lives.proofs.play.Tie as tie
+
+abbrev Inv-loop : tie.InvT-loop
+Inv-loop s image₀ state₀ at₀ image state at = length image ≡ 4096
+
+abbrev μ-loop : tie.MeasureT-loop
+μ-loop s image₀ state₀ at₀ image state at = length s - at
+
+slice-aggregate-made : tie.Need-slice-aggregate-made Inv-loop μ-loop
+slice-aggregate-made c = search needs
+
+made-requires : tie.Need-made-requires Inv-loop μ-loop
+made-requires c κs = search needs
+
+loop-holds : tie.Need-loop-holds Inv-loop μ-loop
+loop-holds c = search needs
+
+next-line-requires : tie.Need-next-line-requires Inv-loop μ-loop
+next-line-requires c κs = search needs
+
+slice-aggregate-play-line : tie.Need-slice-aggregate-play-line Inv-loop μ-loop
+slice-aggregate-play-line c = search needs
+
+part-requires : tie.Need-part-requires Inv-loop μ-loop
+part-requires c κs = search needs
+
+trimmed-requires : tie.Need-trimmed-requires Inv-loop μ-loop
+trimmed-requires c κs = search needs
+
+play-line-requires : tie.Need-play-line-requires Inv-loop μ-loop
+play-line-requires c κs = search needs
+
+loop-less : tie.Need-loop-less Inv-loop μ-loop
+loop-less c = search needs
+
+loop-again : tie.Need-loop-again Inv-loop μ-loop
+loop-again c = search needs
+
+returns : tie.Need-returns Inv-loop μ-loop
+returns c = search needs
+
+pub play-spec : {M : Type 1} → statement M
+play-spec =
+    tie.close
+    (tie.spec
+    Inv-loop
+    μ-loop
+    slice-aggregate-made
+    made-requires
+    loop-holds
+    next-line-requires
+    slice-aggregate-play-line
+    part-requires
+    trimmed-requires
+    play-line-requires
+    loop-less
+    loop-again
+    returns)

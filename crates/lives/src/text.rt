@@ -1,0 +1,128 @@
+// The parts of a line of text: a word, and values behind their keys.
+use decimal::Id;
+ghost use Prim.Native.Nat.{_≤_, _<_};
+ghost use lib.ListN.{length};
+
+// Where the next line begins: behind the line feed, or at the text's end.
+pub(crate) fn next_line(s: &[u8], at: usize) -> usize
+    requires { ⌜ at < length (now s) ⌝ }
+    ensures { λ r. ⌜ (at < r) × (r ≤ length (now (s .entry))) ⌝ }
+{
+    let mut i = at;
+    while i < s.len() {
+        if s[i] == b'\n' {
+            return i + 1;
+        }
+        i += 1;
+    }
+    i
+}
+
+// The part of a text from `start` up to `end`, as far as there is one.
+pub fn part(s: &[u8], start: usize, end: usize) -> &[u8] {
+    if start <= end {
+        if end <= s.len() {
+            return &s[start..end];
+        }
+    }
+    &s[..0]
+}
+
+// A line without its line feed.
+pub fn trimmed(line: &[u8]) -> &[u8] {
+    let n = line.len();
+    if n == 0 {
+        return line;
+    }
+    if line[n - 1] == b'\n' {
+        return &line[..n - 1];
+    }
+    line
+}
+
+// Whether `word` stands at `at`.
+pub fn stands(s: &[u8], at: usize, word: &[u8]) -> bool {
+    if s.len() < at {
+        return false;
+    }
+    if s.len() - at < word.len() {
+        return false;
+    }
+    buffer::same(part(s, at, at + word.len()), word)
+}
+
+// The letters from `at` up to the next blank.
+fn word_at(s: &[u8], at: usize) -> &[u8] {
+    let mut i = at;
+    while i < s.len() {
+        if s[i] == b' ' {
+            return part(s, at, i);
+        }
+        i += 1;
+    }
+    part(s, at, i)
+}
+
+// Where `word` first stands; the text's end where it does not.
+fn find(s: &[u8], word: &[u8]) -> usize
+    ensures { λ r. ⌜ r ≤ length (now (s .entry)) ⌝ }
+{
+    let mut i = 0;
+    while i < s.len() {
+        if stands(s, i, word) {
+            return i;
+        }
+        i += 1;
+    }
+    i
+}
+
+// The value behind a key.
+pub fn value<'a>(s: &'a [u8], key: &[u8]) -> &'a [u8] {
+    let at = find(s, key);
+    if s.len() - at < key.len() {
+        return &s[..0];
+    }
+    word_at(s, at + key.len())
+}
+
+// The number behind a key; 0 where there is none.
+pub fn number(s: &[u8], key: &[u8]) -> u32 {
+    let Id::Given(n) = decimal::read(value(s, key)) else {
+        return 0;
+    };
+    n
+}
+
+// What a digit of hex is worth; 0 for other letters.
+fn digit(b: u8) -> u8
+    ensures { λ r. ⌜ r ≤ 15 ⌝ }
+{
+    if b < 48 {
+        return 0;
+    }
+    if b <= 57 {
+        return b - 48;
+    }
+    if b < 97 {
+        return 0;
+    }
+    if 102 < b {
+        return 0;
+    }
+    b - 87
+}
+
+// The bytes that hex spells, at the front of `out`, and how many they are; what `out` has no room for is left out.
+pub fn unhex(s: &[u8], out: &mut [u8]) -> usize {
+    let mut n = 0;
+    while n < out.len() {
+        let at = n * 2;
+        if s.len() < at + 2 {
+            return n;
+        }
+        out[n] = digit(s[at]) * 16 + digit(s[at + 1]);
+        n += 1;
+    }
+    n
+}

@@ -1,0 +1,28 @@
+-- `own::put_open` meets its contract: by whether an image is open.
+use Rattle.outgoing.proofs.OwnLaws.{open-not, open-put}
+use borrow.Author.Needs.{needs}
+use Rattle.outgoing.proofs.own.put_open.Statement.{statement}
+use Rattle.outgoing.proofs.own.put_open.Tie as tie
+
+returns : tie.Need-returns
+returns c = open-not _ (c .if1 .taken) (c .before .before .before .pre)
+
+load-time-requires : tie.Need-load-time-requires
+load-time-requires c κs = search needs
+
+map-len-requires : tie.Need-map-len-requires
+map-len-requires c κs = search needs
+
+put-open-requires : tie.Need-put-open-requires
+put-open-requires c κs = search needs
+
+same-length : tie.Need-same-length
+same-length c = search needs
+
+returns-2 : tie.Need-returns-2
+returns-2 c = open-put _ (c .before .before .before .before .before .before .before .before .before .if1 .left) (c .before .before .before .map-len .ensures) (c .before .before .before .before .before .load-time .ensures) (c .before .before .put-open .ensures)
+
+pub put-open-spec : {M : Type 1} → statement M
+put-open-spec =
+    tie.close
+    (tie.spec returns load-time-requires map-len-requires put-open-requires same-length returns-2)

@@ -1,0 +1,54 @@
+-- Own datagrams, document 01, "Registration and reports" and refusal 10.
+use Prim.Native.Nat.{ℕ}
+use mathlib.Core.List.{List, [], _++_}
+use lib.Dec.{eqb, ltb}
+use lib.ListN.{length, take}
+use Rattle.buffer.specs.Pick.{pick}
+use Rattle.coap.specs.Write.{registrationHead, reportHead}
+use Rattle.csmp.specs.Write.{sessionRecord, timeRecord}
+use Rattle.decimal.specs.Ids.{held}
+use Rattle.decimal.specs.declared.Ids.{Ids}
+use Rattle.schedule.specs.declared.Point.{Point}
+use Rattle.state.specs.declared.Assigned.{Assigned}
+use Rattle.state.specs.declared.State.{State}
+use Rattle.outgoing.specs.Own.{reportShown, groupsShown, ownRecords}
+use Rattle.outgoing.specs.Shown.{copies, shownAll}
+use Rattle.outgoing.specs.declared.copy.Choice.the-variants.{Only, Except}
+use Rattle.outgoing.specs.declared.sent.Report.{Report}
+use Rattle.outgoing.specs.declared.sent.Report.the-variants.{Primary, Heartbeat}
+
+-- own datagram would pass 1,280: nothing is sent
+unfoldable pub sendable : List ℕ → List ℕ
+sendable bs = pick (ltb 1280 (length bs)) [] bs
+
+-- 7, once a session is held
+unfoldable pub sessionShown : Assigned → List ℕ
+sessionShown a = pick (a .«in_session») (sessionRecord (a .session)) []
+
+-- payload: DeviceID (2), CurrentTime, session, GroupInfo per group, ReportSubscribe, other store records in order; unheld ones left out
+unfoldable pub deviceId : List ℕ → List ℕ
+deviceId store = copies store (Only 2)
+
+unfoldable pub knownTo : State → List ℕ → Point → List ℕ
+knownTo s store time =
+    timeRecord time
+    ++ (sessionShown (s .assigned)
+    ++ (groupsShown (take (s .assigned .groups .count) (s .assigned .groups .list)) ++ (reportShown (s .assigned) ++ copies store (Except 2))))
+
+-- a round's CON POST to /r; nothing where there is no DeviceID in the store
+unfoldable pub registrationSent : State → List ℕ → Point → List ℕ
+registrationSent s store time =
+    pick (eqb (length (deviceId store)) 0) []
+    (sendable (registrationHead (s .registration .«message_id») ++ (deviceId store ++ knownTo s store time)))
+
+-- the list of a report
+unfoldable pub idsOf : Assigned → Report → Ids
+idsOf a Primary = a .ids
+idsOf a Heartbeat = a .«heartbeat_ids»
+
+-- a report's NON POST to /c: session, CurrentTime, then the list's ids as GET takes them
+unfoldable pub reportSent : State → List ℕ → Point → Report → List ℕ
+reportSent s store time which =
+    sendable
+    (reportHead (s .registration .«message_id»)
+    ++ (sessionShown (s .assigned) ++ (timeRecord time ++ shownAll store (ownRecords s time) (held (idsOf (s .assigned) which)))))

@@ -1,0 +1,98 @@
+// Own datagrams: the POST of a registration round, and that of a report. Each is put together whole before the
+// output is touched, so that one that is too long leaves it as it was.
+use crate::copy;
+use crate::copy::Choice;
+use crate::own;
+use decimal::Ids;
+use schedule::Point;
+use state::Assigned;
+use state::State;
+ghost use mathlib.Core.Path.{_≡_};
+ghost use mathlib.Core.List.{[]};
+ghost use Prim.Native.Nat.{_+_, _≤_};
+ghost use lib.Dec.{ltb};
+ghost use lib.ListN.{length, take};
+ghost use Rattle.buffer.specs.Pick.{pick};
+ghost use Rattle.buffer.specs.Put.{Put, Appended};
+ghost use Rattle.outgoing.specs.Sent.{sessionShown, knownTo, idsOf, registrationSent, reportSent};
+
+// The two reports, each with its own interval and list.
+pub enum Report {
+    Primary,
+    Heartbeat,
+}
+
+// SessionID, once one is held.
+fn put_session(a: Assigned, out: &mut [u8], at: usize) -> usize
+    requires { ⌜ at ≤ length (now out) + 1 ⌝ }
+    ensures { λ r. ⌜ Appended (now (out .entry)) at (sessionShown a) (now (out .exit)) r ⌝ }
+{
+    if !a.in_session {
+        return at;
+    }
+    let session = a.session;
+    csmp::put_session(out, at, session)
+}
+
+// What a registration tells behind DeviceID.
+fn put_known(state: State, store: &[u8], time: Point, out: &mut [u8], at: usize) -> usize
+    ensures { λ r. ⌜ Appended (now (out .entry)) at (knownTo state (now (store .entry)) time) (now (out .exit)) r ⌝ }
+{
+    let assigned = state.assigned;
+    let groups = state.assigned.groups;
+    let a = csmp::put_time(out, at, time);
+    let b = put_session(assigned, out, a);
+    let c = own::put_groups(groups, out, b);
+    let d = own::put_subscription(assigned, out, c);
+    copy::copy_records(store, Choice::Except(2), out, d)
+}
+
+// Puts a datagram at the front of the output, unless it passed the end of its own buffer.
+fn send(out: &mut [u8], body: &[u8], end: usize) -> usize
+    ensures { λ r. ⌜ Put (now (out .entry)) 0 (pick (ltb (length (now (body .entry))) «end») [] (take «end» (now (body .entry)))) (now (out .exit)) r ⌝ }
+{
+    if body.len() < end {
+        return 0;
+    }
+    buffer::put(out, 0, &body[..end])
+}
+
+// The CON POST to /r of a round; nothing where it would pass 1,280 bytes or the store has no DeviceID.
+pub fn put_registration(state: State, store: &[u8], time: Point, out: &mut [u8]) -> usize
+    ensures { λ r. ⌜ Put (now (out .entry)) 0 (registrationSent state (now (store .entry)) time) (now (out .exit)) r ⌝ }
+{
+    let mut body = [0u8; 1280];
+    let at = coap::put_registration(&mut body, 0, state.registration.message_id);
+    let mid = copy::copy_records(store, Choice::Only(2), &mut body, at);
+    if mid == at {
+        return 0;
+    }
+    let end = put_known(state, store, time, &mut body, mid);
+    send(out, &body, end)
+}
+
+// The list of a report.
+fn ids_of(a: Assigned, which: Report) -> Ids
+    ensures { λ r. ⌜ r ≡ idsOf a which ⌝ }
+{
+    match which {
+        Report::Primary => a.ids,
+        Report::Heartbeat => a.heartbeat_ids,
+    }
+}
+
+// The NON POST to /c of a report; nothing where it would pass 1,280 bytes.
+pub fn put_report(state: State, store: &[u8], time: Point, which: Report, out: &mut [u8]) -> usize
+    ensures { λ r. ⌜ Put (now (out .entry)) 0 (reportSent state (now (store .entry)) time which) (now (out .exit)) r ⌝ }
+{
+    let assigned = state.assigned;
+    let ids = ids_of(assigned, which);
+    let mut own = [0u8; 4096];
+    let n = own::put_own(state, time, &mut own);
+    let mut body = [0u8; 1280];
+    let a = coap::put_report(&mut body, 0, state.registration.message_id);
+    let b = put_session(assigned, &mut body, a);
+    let c = csmp::put_time(&mut body, b, time);
+    let end = copy::copy_ids(store, &own[..n], ids, &mut body, c);
+    send(out, &body, end)
+}

@@ -1,0 +1,17 @@
+-- `round::take_round` meets its contract: awaited, the next message id, the next interval.
+use Rattle.registration.proofs.Rounds.{round-taken}
+use borrow.Author.Needs.{needs}
+use Rattle.registration.proofs.round.take_round.Statement.{statement}
+use Rattle.registration.proofs.round.take_round.Tie as tie
+
+double-requires : tie.Need-double-requires
+double-requires c κs = search needs
+
+take-id-requires : tie.Need-take-id-requires
+take-id-requires c κs = search needs
+
+returns : tie.Need-returns
+returns c = round-taken _ _ _ _ (c .take-id .ensures) (c .before .double .ensures)
+
+pub take-round-spec : {M : Type 1} → statement M
+take-round-spec = tie.close (tie.spec double-requires take-id-requires returns)
