@@ -1,14 +1,14 @@
 // The CoAP frame (RFC 7252): reading a datagram's header and options, what a request's options ask, and
 // the heads of what the agent sends. Options and payload stay where they are: positions say where they stand.
-mod request;
+mod options;
 mod write;
 
-pub use request::Path;
-pub use request::Query;
-pub use request::asked_ids;
-pub use request::refused;
-pub use request::request_path;
-pub use request::request_query;
+pub use options::Path;
+pub use options::Query;
+pub use options::asked_ids;
+pub use options::refused;
+pub use options::request_path;
+pub use options::request_query;
 pub use write::put_registration;
 pub use write::put_reply;
 pub use write::put_report;
