@@ -8,32 +8,16 @@ mod assign;
 mod show;
 
 use libc::STDIN_FILENO;
-use schedule::Length;
 use schedule::Point;
-use state::Settings;
-use state::Setup;
 use state::State;
 use tlv::Cursor;
 use tlv::Record;
 use tlv::Taken;
 
-fn set_up() -> Setup {
-    let settings = Settings {
-        image_len: 4096,
-        interval_min: Length(300),
-        interval_max: Length(3600),
-        message_id: 0,
-        signed_posts: false,
-        signed_responses: false,
-    };
-    let running = [0u8; 32];
-    agent::setup(b"A1", b"", &running, b"coap://n", settings)
-}
-
 // Sets the device up anew, over an image buffer of zeros.
 fn renew(image: &mut [u8; 4096]) -> State {
     *image = [0; 4096];
-    let made = set_up();
+    let made = lister::device();
     show::given(b" setup", made.outcome as usize);
     made.state
 }
@@ -107,19 +91,19 @@ fn play_record(
     n: u64,
     images: bool,
 ) -> State {
-    show::number(n);
+    lines::number(n);
     let next = act(state, image, value(s, store), r.kind, value(s, r));
     if images {
         show::images(next.images);
         show::checksum(image);
     }
-    show::word(b"\n");
+    lines::word(b"\n");
     next
 }
 
 fn play(s: &[u8], images: bool) {
     let mut image = [0u8; 4096];
-    let made = set_up();
+    let made = lister::device();
     let mut state = made.state;
     let mut store = Record {
         kind: 2,
@@ -130,7 +114,7 @@ fn play(s: &[u8], images: bool) {
     let mut n = 0;
     while cursor.at < s.len() {
         let Taken::Record(r) = cursor.take(s) else {
-            show::word(b"unreadable\n");
+            lines::word(b"unreadable\n");
             return;
         };
         store = stored(store, r);

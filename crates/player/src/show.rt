@@ -1,40 +1,24 @@
 // The parts of a line.
 use agent::Answer;
-use libc::STDOUT_FILENO;
 use state::Images;
-
-pub fn word(s: &[u8]) {
-    io::write_all(STDOUT_FILENO, s);
-}
-
-pub fn number(n: u64) {
-    io::print_decimal(STDOUT_FILENO, n);
-}
 
 // A blank and a number.
 fn next(n: u64) {
-    word(b" ");
-    number(n);
+    lines::word(b" ");
+    lines::number(n);
 }
 
 // A blank and bytes in hex.
-fn hex(s: &[u8]) {
-    word(b" ");
-    if s.len() == 0 {
-        word(b"-");
-    }
-    let mut i = 0;
-    while i < s.len() {
-        io::print_hex(STDOUT_FILENO, buffer::wide(s[i]), 2);
-        i += 1;
-    }
+fn bytes(s: &[u8]) {
+    lines::word(b" ");
+    lines::hex(s);
 }
 
 // What was set, and a number: a setup's outcome, or how many bytes were given.
 pub fn given(what: &[u8], n: usize) {
-    word(what);
+    lines::word(what);
     next(n as u64);
-    word(b" -");
+    lines::word(b" -");
 }
 
 // What a call answered: outcome, length, and the reply.
@@ -42,7 +26,7 @@ pub fn answer(a: Answer, out: &[u8]) {
     next(a.outcome as u64);
     let len = a.len;
     next(len as u64);
-    hex(buffer::front(out, len));
+    bytes(buffer::front(out, len));
 }
 
 // How many bytes of the bitmap are shown: those that have a block's bit, at most 16.
@@ -55,21 +39,21 @@ fn shown(blocks: u64) -> usize {
 
 fn bitmap(map: [u8; 128], blocks: u64) {
     let n = shown(blocks);
-    hex(buffer::front(&map, n));
+    bytes(buffer::front(&map, n));
 }
 
 fn complete(all: bool) {
     if all {
-        word(b" complete");
+        lines::word(b" complete");
     } else {
-        word(b" not yet");
+        lines::word(b" not yet");
     }
 }
 
 // The open image: its blocks, the front of its bitmap, and whether none is missing.
 pub fn images(i: Images) {
     if !i.open {
-        word(b" 0 - closed");
+        lines::word(b" 0 - closed");
         return;
     }
     let image = i.image;
@@ -97,9 +81,9 @@ pub fn checksum(image: &[u8; 4096]) {
 }
 
 pub fn header(images: bool) {
-    word(b"n outcome len reply");
+    lines::word(b"n outcome len reply");
     if images {
-        word(b" blocks bitmap image sum");
+        lines::word(b" blocks bitmap image sum");
     }
-    word(b"\n");
+    lines::word(b"\n");
 }

@@ -14,8 +14,8 @@ Inv-loop s images image₀ state₀ store₀ cursor₀ n₀ t10 image state stor
 abbrev μ-loop : tie.MeasureT-loop
 μ-loop s images image₀ state₀ store₀ cursor₀ n₀ t10 image state store cursor n = length s - cursor .at
 
-set-up-requires : tie.Need-set-up-requires Inv-loop μ-loop
-set-up-requires c κs = search needs
+device-requires : tie.Need-device-requires Inv-loop μ-loop
+device-requires c κs = search needs
 
 loop-holds : tie.Need-loop-holds Inv-loop μ-loop
 loop-holds c = search needs
@@ -70,7 +70,7 @@ play-spec =
     (tie.spec
     Inv-loop
     μ-loop
-    set-up-requires
+    device-requires
     loop-holds
     take-requires
     enum-known-r
