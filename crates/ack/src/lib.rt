@@ -26,7 +26,7 @@ fn learn(
     let mut learnt = note::nothing(registration, assigned);
     let mut cursor = Cursor { at: 0 };
     while cursor.at < payload.len() {
-        let Taken::Record(r) = cursor.take(payload) else {
+        let Taken::Record(r) = tlv::take_record(payload, cursor.at) else {
             return note::mark(learnt, false);
         };
         let start = r.start;

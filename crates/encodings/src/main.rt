@@ -7,17 +7,6 @@ use protobuf::Step;
 use tlv::Cursor;
 use tlv::Taken;
 
-fn print_bytes(b: &[u8]) {
-    if b.len() == 0 {
-        io::write_all(STDOUT_FILENO, b"-");
-    }
-    let mut i = 0;
-    while i < b.len() {
-        io::print_hex(STDOUT_FILENO, buffer::wide(b[i]), 2);
-        i += 1;
-    }
-}
-
 fn print_field(s: &[u8], f: Field) {
     io::print_decimal(STDOUT_FILENO, f.number as u64);
     io::write_all(STDOUT_FILENO, b" ");
@@ -29,7 +18,7 @@ fn print_field(s: &[u8], f: Field) {
         io::print_decimal(STDOUT_FILENO, f.value);
     } else if start <= end {
         if end <= s.len() {
-            print_bytes(&s[start..end]);
+            lines::hex(&s[start..end]);
         }
     }
     io::write_all(STDOUT_FILENO, b"\n");
@@ -63,7 +52,7 @@ fn print_record(s: &[u8], start: usize, end: usize, kind: u64) {
 fn print_records(s: &[u8]) {
     let mut cursor = Cursor { at: 0 };
     while cursor.at < s.len() {
-        let Taken::Record(r) = cursor.take(s) else {
+        let Taken::Record(r) = tlv::take_record(s, cursor.at) else {
             io::write_all(STDOUT_FILENO, b"unreadable\n");
             return;
         };

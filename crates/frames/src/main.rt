@@ -30,14 +30,7 @@ fn say_number(n: u64) {
 // A blank and bytes in hex.
 fn say_bytes(b: &[u8]) {
     say(b" ");
-    if b.len() == 0 {
-        say(b"-");
-    }
-    let mut i = 0;
-    while i < b.len() {
-        io::print_hex(STDOUT_FILENO, buffer::wide(b[i]), 2);
-        i += 1;
-    }
+    lines::hex(b);
 }
 
 // A blank and a code: class, point, and two digits of detail.
@@ -192,7 +185,7 @@ fn print_record(s: &[u8], start: usize, end: usize, kind: u64) {
 fn print_records(s: &[u8]) {
     let mut cursor = Cursor { at: 0 };
     while cursor.at < s.len() {
-        let Taken::Record(r) = cursor.take(s) else {
+        let Taken::Record(r) = tlv::take_record(s, cursor.at) else {
             say(b"unreadable\n");
             return;
         };

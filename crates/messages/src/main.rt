@@ -39,7 +39,7 @@ fn show_part(s: &[u8], kind: u64, start: usize, end: usize) {
 fn show_records(s: &[u8]) {
     let mut cursor = Cursor { at: 0 };
     while cursor.at < s.len() {
-        let Taken::Record(r) = cursor.take(s) else {
+        let Taken::Record(r) = tlv::take_record(s, cursor.at) else {
             show::word(b"unreadable\n");
             return;
         };

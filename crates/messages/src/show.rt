@@ -15,15 +15,13 @@ pub fn number(n: u64) {
     io::print_decimal(STDOUT_FILENO, n);
 }
 
+// Bytes in hex; absent ones have a dash, so none are called empty.
 pub fn hex(s: &[u8]) {
     if s.len() == 0 {
         word(b"empty");
+        return;
     }
-    let mut i = 0;
-    while i < s.len() {
-        io::print_hex(STDOUT_FILENO, buffer::wide(s[i]), 2);
-        i += 1;
-    }
+    lines::hex(s);
 }
 
 fn readable(b: bool) {

@@ -9,6 +9,7 @@ use lib.Dec.{eqb}
 use lib.ListN.{length, take, drop, getD, length-take, drop-of-length-le}
 use Rattle.buffer.specs.Pick.{pick}
 use Rattle.buffer.specs.Put.{Put, Appended}
+use Rattle.buffer.proofs.Tests.{head}
 use Rattle.buffer.proofs.Puts.{appended-put, appended-none, appended-most, appended-join}
 use Rattle.tlv.specs.Record.{recordAt, recordsFrom}
 use Rattle.tlv.specs.declared.Record.{Record}
@@ -112,12 +113,6 @@ unfolding shownOf
 shown store own id e p = rw e at p
 
 -- the ids held from a place of the list on
-head : (l : List ℕ) (n i : ℕ) → i < n → i < length l → drop i (take n l) ≡ getD l i 0 ∷ drop (suc i) (take n l)
-head l zero i h k = absurd (omega arith)
-head [] (suc n) i h k = absurd (omega arith)
-head (x ∷ xs) (suc n) zero h k = refl
-head (x ∷ xs) (suc n) (suc i) h k = head xs n i (omega arith) (omega arith)
-
 module _ (store own list : List ℕ) (count : ℕ) where
   unfoldable pub shownFrom : ℕ → List ℕ
   shownFrom i = shownAll store own (drop i (take count list))
@@ -139,7 +134,7 @@ module _ (store own list : List ℕ) (count : ℕ) where
   unfolding shownFrom shownAll
   going-id i id h k e g p =
       let z : i + 1 ≡ suc i = omega arith in
-      rw z (going-more (shownOf store own id) (shownAll store own (drop (suc i) (take count list))) (rw (head list count i h k, ← e) at g) p)
+      rw z (going-more (shownOf store own id) (shownAll store own (drop (suc i) (take count list))) (rw (head list count i 0 h k, ← e) at g) p)
 
 -- what fits is content, else it is forbidden
 module _ (end len : ℕ) where

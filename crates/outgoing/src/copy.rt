@@ -79,7 +79,7 @@ pub(crate) fn copy_records(s: &[u8], choice: Choice, out: &mut [u8], at: usize) 
     let mut end = at;
     let mut cursor = Cursor { at: 0 };
     while cursor.at < s.len() {
-        let Taken::Record(r) = cursor.take(s) else {
+        let Taken::Record(r) = tlv::take_record(s, cursor.at) else {
             return end;
         };
         let start = cursor.at;

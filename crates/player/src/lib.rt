@@ -113,7 +113,7 @@ fn play(s: &[u8], images: bool) {
     let mut cursor = Cursor { at: 0 };
     let mut n = 0;
     while cursor.at < s.len() {
-        let Taken::Record(r) = cursor.take(s) else {
+        let Taken::Record(r) = tlv::take_record(s, cursor.at) else {
             lines::word(b"unreadable\n");
             return;
         };

@@ -80,7 +80,7 @@ pub fn look(payload: &[u8], groups: Groups, time: Point) -> Seen
     }
     let mut cursor = Cursor { at: 0 };
     while cursor.at < payload.len() {
-        let Taken::Record(r) = cursor.take(payload) else {
+        let Taken::Record(r) = tlv::take_record(payload, cursor.at) else {
             return seal(seen, false);
         };
         let start = r.start;

@@ -37,7 +37,7 @@ fn run(device: Device, first: Ran, flash: &mut [u8], payload: &[u8], out: &mut [
     let mut ran = first;
     let mut cursor = Cursor { at: 0 };
     while cursor.at < payload.len() {
-        let Taken::Record(r) = cursor.take(payload) else {
+        let Taken::Record(r) = tlv::take_record(payload, cursor.at) else {
             return ran;
         };
         let start = r.start;

@@ -77,7 +77,7 @@ pub fn is_acceptable(s: &[u8]) -> bool
     };
     let mut cursor = Cursor { at: 0 };
     while cursor.at < s.len() {
-        let Taken::Record(r) = cursor.take(s) else {
+        let Taken::Record(r) = tlv::take_record(s, cursor.at) else {
             return false;
         };
         seen = note(seen, r.kind);

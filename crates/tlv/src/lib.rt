@@ -1,10 +1,11 @@
 // Records: a varint type, a varint length, a value. A reader walks the payload it was lent and hands
 // over where a value stands; nothing is copied out.
+mod reader;
+
 ghost use mathlib.Core.Path.{_≡_};
 ghost use Rattle.buffer.specs.Put.{Put};
-ghost use Rattle.tlv.specs.Record.{recordAt, counted, foundFrom, recordHead, recordBytes};
-use varint::Delimited;
-use varint::Varint;
+ghost use Rattle.tlv.specs.Record.{counted, foundFrom, recordHead, recordBytes};
+pub use reader::take_record;
 
 // A record of a payload: its type, and its value's bytes from `start` up to `end`, where the next record begins.
 pub struct Record {
@@ -37,27 +38,13 @@ pub struct Cursor {
 }
 
 impl Cursor {
-    // The record that stands here.
-    pub fn take(self, s: &[u8]) -> Taken
-        ensures { λ r. ⌜ r ≡ recordAt (now (s .entry)) (self .at) ⌝ }
-    {
-        let at = self.at;
-        let Varint::Number(kind, mid) = varint::read(s, at) else {
-            return Taken::Unreadable;
-        };
-        let Delimited::At(start, end) = varint::read_delimited(s, mid) else {
-            return Taken::Unreadable;
-        };
-        Taken::Record(Record { kind, start, end })
-    }
-
     // The first record of the type from here on, among those that can be read.
     pub fn find(self, s: &[u8], kind: u64) -> Found
         ensures { λ r. ⌜ r ≡ foundFrom (now (s .entry)) (self .at) kind ⌝ }
     {
         let mut cursor = self;
         while cursor.at < s.len() {
-            let Taken::Record(record) = cursor.take(s) else {
+            let Taken::Record(record) = take_record(s, cursor.at) else {
                 return Found::Nothing;
             };
             if record.kind == kind {
@@ -76,7 +63,7 @@ pub fn count(s: &[u8]) -> Total
     let mut cursor = Cursor { at: 0 };
     let mut n = 0;
     while cursor.at < s.len() {
-        let Taken::Record(record) = cursor.take(s) else {
+        let Taken::Record(record) = take_record(s, cursor.at) else {
             return Total::Unreadable;
         };
         cursor = Cursor { at: record.end };

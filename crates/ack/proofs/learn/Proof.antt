@@ -21,8 +21,8 @@ nothing-requires c κs = search needs
 loop-holds : tie.Need-loop-holds Inv-loop μ-loop
 loop-holds c = (refl, omega arith)
 
-take-requires : tie.Need-take-requires Inv-loop μ-loop
-take-requires c κs = search needs
+take-record-requires : tie.Need-take-record-requires Inv-loop μ-loop
+take-record-requires c κs = search needs
 
 enum-known-r : tie.Need-enum-known-r Inv-loop μ-loop
 enum-known-r c = search needs
@@ -34,25 +34,25 @@ mark-requires : tie.Need-mark-requires Inv-loop μ-loop
 mark-requires c κs = search needs
 
 returns : tie.Need-returns Inv-loop μ-loop
-returns c = c .mark .ensures ∙ sym (learnt-start _ _ _ _ _ _ (c .before .before .before .before .before .before .before .nothing .ensures) ∙ c .before .before .before .before .before .before .loop .inv .0 ∙ learnt-unreadable _ _ _ _ _ (c .before .before .before .before .if1 .taken) (sym (c .before .before .before .take .ensures) ∙ c .before .enum-told .given .1))
+returns c = c .mark .ensures ∙ sym (learnt-start _ _ _ _ _ _ (c .before .before .before .before .before .before .before .nothing .ensures) ∙ c .before .before .before .before .before .before .loop .inv .0 ∙ learnt-unreadable _ _ _ _ _ (c .before .before .before .before .if1 .taken) (sym (c .before .before .before .take-record .ensures) ∙ c .before .enum-told .given .1))
 
 sub-note : tie.Need-sub-note Inv-loop μ-loop
-sub-note c = let i = record-inside (c .before .before .before .before .before .before .before .before .before .args .payload .now) (c .before .before .before .before .before .before .loop .cursor .at) _ (sym (c .before .before .before .take .ensures) ∙ c .before .r .given .1) in omega arith
+sub-note c = let i = record-inside (c .before .before .before .before .before .before .before .before .before .args .payload .now) (c .before .before .before .before .before .before .loop .cursor .at) _ (sym (c .before .before .before .take-record .ensures) ∙ c .before .r .given .1) in omega arith
 
 part-note-start : tie.Need-part-note-start Inv-loop μ-loop
-part-note-start c = let i = record-inside (c .before .before .before .before .before .before .before .before .before .args .payload .now) (c .before .before .before .before .before .before .loop .cursor .at) _ (sym (c .before .before .before .take .ensures) ∙ c .before .r .given .1) in omega arith
+part-note-start c = let i = record-inside (c .before .before .before .before .before .before .before .before .before .args .payload .now) (c .before .before .before .before .before .before .loop .cursor .at) _ (sym (c .before .before .before .take-record .ensures) ∙ c .before .r .given .1) in omega arith
 
 part-note-end : tie.Need-part-note-end Inv-loop μ-loop
-part-note-end c = let i = record-inside (c .before .before .before .before .before .before .before .before .before .args .payload .now) (c .before .before .before .before .before .before .loop .cursor .at) _ (sym (c .before .before .before .take .ensures) ∙ c .before .r .given .1) in omega arith
+part-note-end c = let i = record-inside (c .before .before .before .before .before .before .before .before .before .args .payload .now) (c .before .before .before .before .before .before .loop .cursor .at) _ (sym (c .before .before .before .take-record .ensures) ∙ c .before .r .given .1) in omega arith
 
 note-requires : tie.Need-note-requires Inv-loop μ-loop
 note-requires c κs = search needs
 
 loop-less : tie.Need-loop-less Inv-loop μ-loop
-loop-less c = let i = record-inside (c .before .before .before .before .before .before .before .before .before .before .before .args .payload .now) (c .before .before .before .before .before .before .before .before .loop .cursor .at) _ (sym (c .before .before .before .before .before .take .ensures) ∙ c .before .before .before .r .given .1) in omega arith
+loop-less c = let i = record-inside (c .before .before .before .before .before .before .before .before .before .before .before .args .payload .now) (c .before .before .before .before .before .before .before .before .loop .cursor .at) _ (sym (c .before .before .before .before .before .take-record .ensures) ∙ c .before .before .before .r .given .1) in omega arith
 
 loop-again : tie.Need-loop-again Inv-loop μ-loop
-loop-again c = let i = record-inside (c .before .before .before .before .before .before .before .before .before .before .before .args .payload .now) (c .before .before .before .before .before .before .before .before .loop .cursor .at) _ (sym (c .before .before .before .before .before .take .ensures) ∙ c .before .before .before .r .given .1) in (c .before .before .before .before .before .before .before .before .loop .inv .0 ∙ learnt-next _ _ _ _ _ _ _ (sym (c .before .before .before .before .before .take .ensures) ∙ c .before .before .before .r .given .1) (c .note .ensures), omega arith)
+loop-again c = let i = record-inside (c .before .before .before .before .before .before .before .before .before .before .before .args .payload .now) (c .before .before .before .before .before .before .before .before .loop .cursor .at) _ (sym (c .before .before .before .before .before .take-record .ensures) ∙ c .before .before .before .r .given .1) in (c .before .before .before .before .before .before .before .before .loop .inv .0 ∙ learnt-next _ _ _ _ _ _ _ (sym (c .before .before .before .before .before .take-record .ensures) ∙ c .before .before .before .r .given .1) (c .note .ensures), omega arith)
 
 returns-2 : tie.Need-returns-2 Inv-loop μ-loop
 returns-2 c = sym (learnt-start _ _ _ _ _ _ (c .before .before .before .nothing .ensures) ∙ c .before .before .loop .inv .0 ∙ learnt-end _ _ _ _ _ (c .if1 .left))
@@ -65,7 +65,7 @@ learn-spec =
     μ-loop
     nothing-requires
     loop-holds
-    take-requires
+    take-record-requires
     enum-known-r
     enum-told
     mark-requires

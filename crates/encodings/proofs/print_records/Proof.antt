@@ -17,8 +17,8 @@ abbrev μ-loop : tie.MeasureT-loop
 loop-holds : tie.Need-loop-holds Inv-loop μ-loop
 loop-holds c = search needs
 
-take-requires : tie.Need-take-requires Inv-loop μ-loop
-take-requires c κs = search needs
+take-record-requires : tie.Need-take-record-requires Inv-loop μ-loop
+take-record-requires c κs = search needs
 
 enum-known-r : tie.Need-enum-known-r Inv-loop μ-loop
 enum-known-r c = search needs
@@ -41,7 +41,7 @@ print-record-requires c κs = search needs
 loop-less : tie.Need-loop-less Inv-loop μ-loop
 loop-less c =
     let l = c .before .before .before .before .before .before .before .loop in
-    omega (arith, c .before .before .before .before .before .if1 .taken, record-inside _ (l .cursor .at) _ (sym (c .before .before .before .before .take .ensures) ∙ c .before .before .r .given .1))
+    omega (arith, c .before .before .before .before .before .if1 .taken, record-inside _ (l .cursor .at) _ (sym (c .before .before .before .before .take-record .ensures) ∙ c .before .before .r .given .1))
 
 loop-again : tie.Need-loop-again Inv-loop μ-loop
 loop-again c = search needs
@@ -56,7 +56,7 @@ print-records-spec =
     Inv-loop
     μ-loop
     loop-holds
-    take-requires
+    take-record-requires
     enum-known-r
     enum-told
     slice-aggregate-write-all

@@ -20,8 +20,8 @@ device-requires c κs = search needs
 loop-holds : tie.Need-loop-holds Inv-loop μ-loop
 loop-holds c = search needs
 
-take-requires : tie.Need-take-requires Inv-loop μ-loop
-take-requires c κs = search needs
+take-record-requires : tie.Need-take-record-requires Inv-loop μ-loop
+take-record-requires c κs = search needs
 
 enum-known-r : tie.Need-enum-known-r Inv-loop μ-loop
 enum-known-r c = search needs
@@ -53,13 +53,13 @@ loop-less : tie.Need-loop-less Inv-loop μ-loop
 loop-less c =
     let k = c .before .before .before .before in
     let at = k .before .before .before .before .before .loop .cursor .at in
-    omega (arith, k .before .before .before .if1 .taken, record-inside _ at _ (sym (k .before .before .take .ensures) ∙ k .r .given .1))
+    omega (arith, k .before .before .before .if1 .taken, record-inside _ at _ (sym (k .before .before .take-record .ensures) ∙ k .r .given .1))
 
 loop-again : tie.Need-loop-again Inv-loop μ-loop
 loop-again c =
     let k = c .before .before .before .before in
     let at = k .before .before .before .before .before .loop .cursor .at in
-    omega (arith, k .before .before .before .if1 .taken, record-inside _ at _ (sym (k .before .before .take .ensures) ∙ k .r .given .1))
+    omega (arith, k .before .before .before .if1 .taken, record-inside _ at _ (sym (k .before .before .take-record .ensures) ∙ k .r .given .1))
 
 returns-2 : tie.Need-returns-2 Inv-loop μ-loop
 returns-2 c = search needs
@@ -72,7 +72,7 @@ play-spec =
     μ-loop
     device-requires
     loop-holds
-    take-requires
+    take-record-requires
     enum-known-r
     enum-told
     slice-aggregate-word

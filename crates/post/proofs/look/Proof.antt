@@ -25,8 +25,8 @@ returns c = c .seal .ensures ∙ sym (looked-large _ _ _ (c .before .if1 .taken)
 loop-holds : tie.Need-loop-holds Inv-loop μ-loop
 loop-holds c = (looked-start _ _ _ (c .if1 .left), omega arith, omega arith)
 
-take-requires : tie.Need-take-requires Inv-loop μ-loop
-take-requires c κs = search needs
+take-record-requires : tie.Need-take-record-requires Inv-loop μ-loop
+take-record-requires c κs = search needs
 
 enum-known-r : tie.Need-enum-known-r Inv-loop μ-loop
 enum-known-r c = search needs
@@ -41,24 +41,24 @@ returns-2 : tie.Need-returns-2 Inv-loop μ-loop
 returns-2 c =
     let a = c .before .before .before .before .before .before .before .before .before .args in
     let l = c .before .before .before .before .before .before .loop in
-    c .seal2 .ensures ∙ sym (l .inv .0 ∙ looked-unreadable (a .groups) (a .time) (a .payload .now) (l .cursor .at) (l .seen) (c .before .before .before .before .if2 .taken) (sym (c .before .before .before .take .ensures) ∙ c .before .enum-told .given .1))
+    c .seal2 .ensures ∙ sym (l .inv .0 ∙ looked-unreadable (a .groups) (a .time) (a .payload .now) (l .cursor .at) (l .seen) (c .before .before .before .before .if2 .taken) (sym (c .before .before .before .take-record .ensures) ∙ c .before .enum-told .given .1))
 
 sub-note : tie.Need-sub-note Inv-loop μ-loop
 sub-note c =
     let p = c .before .before .before .before .before .before .before .before .before .args .payload .now in
-    let i = record-inside p (c .before .before .before .before .before .before .loop .cursor .at) _ (sym (c .before .before .before .take .ensures) ∙ c .before .r .given .1) in
+    let i = record-inside p (c .before .before .before .before .before .before .loop .cursor .at) _ (sym (c .before .before .before .take-record .ensures) ∙ c .before .r .given .1) in
     omega arith
 
 part-note-start : tie.Need-part-note-start Inv-loop μ-loop
 part-note-start c =
     let p = c .before .before .before .before .before .before .before .before .before .args .payload .now in
-    let i = record-inside p (c .before .before .before .before .before .before .loop .cursor .at) _ (sym (c .before .before .before .take .ensures) ∙ c .before .r .given .1) in
+    let i = record-inside p (c .before .before .before .before .before .before .loop .cursor .at) _ (sym (c .before .before .before .take-record .ensures) ∙ c .before .r .given .1) in
     omega arith
 
 part-note-end : tie.Need-part-note-end Inv-loop μ-loop
 part-note-end c =
     let p = c .before .before .before .before .before .before .before .before .before .args .payload .now in
-    let i = record-inside p (c .before .before .before .before .before .before .loop .cursor .at) _ (sym (c .before .before .before .take .ensures) ∙ c .before .r .given .1) in
+    let i = record-inside p (c .before .before .before .before .before .before .loop .cursor .at) _ (sym (c .before .before .before .take-record .ensures) ∙ c .before .r .given .1) in
     omega arith
 
 note-requires : tie.Need-note-requires Inv-loop μ-loop
@@ -71,7 +71,7 @@ loop-less : tie.Need-loop-less Inv-loop μ-loop
 loop-less c =
     let p = c .before .before .before .before .before .before .before .before .before .before .before .args .payload .now in
     let l = c .before .before .before .before .before .before .before .before .loop in
-    let i = record-inside p (l .cursor .at) _ (sym (c .before .before .before .before .before .take .ensures) ∙ c .before .before .before .r .given .1) in
+    let i = record-inside p (l .cursor .at) _ (sym (c .before .before .before .before .before .take-record .ensures) ∙ c .before .before .before .r .given .1) in
     omega arith
 
 loop-again : tie.Need-loop-again Inv-loop μ-loop
@@ -79,7 +79,7 @@ loop-again c =
     let a = c .before .before .before .before .before .before .before .before .before .before .before .args in
     let p = a .payload .now in
     let l = c .before .before .before .before .before .before .before .before .loop in
-    let e = sym (c .before .before .before .before .before .take .ensures) ∙ c .before .before .before .r .given .1 in
+    let e = sym (c .before .before .before .before .before .take-record .ensures) ∙ c .before .before .before .r .given .1 in
     let i = record-inside p (l .cursor .at) _ e in
     let n = noted-count (a .groups) (a .time) (l .seen) _ _ (c .note .result) (c .note .ensures) in (
       l .inv .0 ∙ looked-next (a .groups) (a .time) p (l .cursor .at) (l .seen) _ (c .note .result) e (c .note .ensures),
@@ -105,7 +105,7 @@ look-spec =
     seal-requires
     returns
     loop-holds
-    take-requires
+    take-record-requires
     enum-known-r
     enum-told
     seal-requires-2

@@ -20,8 +20,8 @@ abbrev μ-loop : tie.MeasureT-loop
 loop-holds : tie.Need-loop-holds Inv-loop μ-loop
 loop-holds c = (going-start _ _ _ _ _ (c .before .before .before .pre), refl)
 
-take-requires : tie.Need-take-requires Inv-loop μ-loop
-take-requires c κs = search needs
+take-record-requires : tie.Need-take-record-requires Inv-loop μ-loop
+take-record-requires c κs = search needs
 
 enum-known-r : tie.Need-enum-known-r Inv-loop μ-loop
 enum-known-r c = search needs
@@ -37,18 +37,18 @@ same-length-2 c = search needs
 
 returns : tie.Need-returns Inv-loop μ-loop
 returns c = let l = c .before .before .before .before .before .loop in
-    going-end _ _ _ _ _ (l .cursor .at) (l .inv .0) (rest-unreadable _ _ (c .before .before .before .if1 .taken) (sym (c .before .before .take .ensures) ∙ c .enum-told .given .1))
+    going-end _ _ _ _ _ (l .cursor .at) (l .inv .0) (rest-unreadable _ _ (c .before .before .before .if1 .taken) (sym (c .before .before .take-record .ensures) ∙ c .enum-told .given .1))
 
 sub-run-record : tie.Need-sub-run-record Inv-loop μ-loop
-sub-run-record c = let i = record-inside (c .before .before .before .before .before .before .before .before .before .before .before .args .payload .now) (c .before .before .before .before .before .before .before .loop .cursor .at) _ (sym (c .before .before .before .before .take .ensures) ∙ c .before .before .r .given .1) in
+sub-run-record c = let i = record-inside (c .before .before .before .before .before .before .before .before .before .before .before .args .payload .now) (c .before .before .before .before .before .before .before .loop .cursor .at) _ (sym (c .before .before .before .before .take-record .ensures) ∙ c .before .before .r .given .1) in
     omega arith
 
 part-run-record-start : tie.Need-part-run-record-start Inv-loop μ-loop
-part-run-record-start c = let i = record-inside (c .before .before .before .before .before .before .before .before .before .before .before .args .payload .now) (c .before .before .before .before .before .before .before .loop .cursor .at) _ (sym (c .before .before .before .before .take .ensures) ∙ c .before .before .r .given .1) in
+part-run-record-start c = let i = record-inside (c .before .before .before .before .before .before .before .before .before .before .before .args .payload .now) (c .before .before .before .before .before .before .before .loop .cursor .at) _ (sym (c .before .before .before .before .take-record .ensures) ∙ c .before .before .r .given .1) in
     omega arith
 
 part-run-record-end : tie.Need-part-run-record-end Inv-loop μ-loop
-part-run-record-end c = let i = record-inside (c .before .before .before .before .before .before .before .before .before .before .before .args .payload .now) (c .before .before .before .before .before .before .before .loop .cursor .at) _ (sym (c .before .before .before .before .take .ensures) ∙ c .before .before .r .given .1) in
+part-run-record-end c = let i = record-inside (c .before .before .before .before .before .before .before .before .before .before .before .args .payload .now) (c .before .before .before .before .before .before .before .loop .cursor .at) _ (sym (c .before .before .before .before .take-record .ensures) ∙ c .before .before .r .given .1) in
     omega arith
 
 run-record-requires : tie.Need-run-record-requires Inv-loop μ-loop
@@ -56,13 +56,13 @@ run-record-requires c κs = let r = c .before .before .before .before .before .b
     omega arith
 
 loop-less : tie.Need-loop-less Inv-loop μ-loop
-loop-less c = let i = record-inside (c .before .before .before .before .before .before .before .before .before .before .before .before .before .before .before .before .before .before .args .payload .now) (c .before .before .before .before .before .before .before .before .before .before .before .before .before .before .loop .cursor .at) _ (sym (c .before .before .before .before .before .before .before .before .before .before .before .take .ensures) ∙ c .before .before .before .before .before .before .before .before .before .r .given .1) in
+loop-less c = let i = record-inside (c .before .before .before .before .before .before .before .before .before .before .before .before .before .before .before .before .before .before .args .payload .now) (c .before .before .before .before .before .before .before .before .before .before .before .before .before .before .loop .cursor .at) _ (sym (c .before .before .before .before .before .before .before .before .before .before .before .take-record .ensures) ∙ c .before .before .before .before .before .before .before .before .before .r .given .1) in
     omega arith
 
 loop-again : tie.Need-loop-again Inv-loop μ-loop
 loop-again c = let l = c .before .before .before .before .before .before .before .before .before .before .before .before .before .before .loop in
     let s = c .before .before .before .before .run-record .ensures in (
-      going-next _ _ _ _ _ (l .cursor .at) _ _ _ _ _ _ _ (l .inv .0) (sym (c .before .before .before .before .before .before .before .before .before .before .before .take .ensures) ∙ c .before .before .before .before .before .before .before .before .before .r .given .1) (s .world) (s .appended),
+      going-next _ _ _ _ _ (l .cursor .at) _ _ _ _ _ _ _ (l .inv .0) (sym (c .before .before .before .before .before .before .before .before .before .before .before .take-record .ensures) ∙ c .before .before .before .before .before .before .before .before .before .r .given .1) (s .world) (s .appended),
       search needs,
     )
 
@@ -83,7 +83,7 @@ run-spec =
     Inv-loop
     μ-loop
     loop-holds
-    take-requires
+    take-record-requires
     enum-known-r
     enum-told
     same-length

@@ -23,8 +23,8 @@ returns c = sym (accepted-large _ (c .if1 .taken))
 loop-holds : tie.Need-loop-holds Inv-loop μ-loop
 loop-holds c = (accepted-start _ (c .if1 .left), omega arith, omega arith, omega arith)
 
-take-requires : tie.Need-take-requires Inv-loop μ-loop
-take-requires c κs = search needs
+take-record-requires : tie.Need-take-record-requires Inv-loop μ-loop
+take-record-requires c κs = search needs
 
 enum-known-r : tie.Need-enum-known-r Inv-loop μ-loop
 enum-known-r c = search needs
@@ -36,7 +36,7 @@ returns-2 : tie.Need-returns-2 Inv-loop μ-loop
 returns-2 c =
     let s = c .before .before .before .before .before .before .before .before .args .s .now in
     let l = c .before .before .before .before .before .loop in
-    sym (l .inv .0 ∙ accepted-unreadable s (l .cursor .at) (l .seen) (c .before .before .before .if2 .taken) (sym (c .before .before .take .ensures) ∙ c .enum-told .given .1))
+    sym (l .inv .0 ∙ accepted-unreadable s (l .cursor .at) (l .seen) (c .before .before .before .if2 .taken) (sym (c .before .before .take-record .ensures) ∙ c .enum-told .given .1))
 
 note-requires : tie.Need-note-requires Inv-loop μ-loop
 note-requires c κs =
@@ -48,14 +48,14 @@ loop-less : tie.Need-loop-less Inv-loop μ-loop
 loop-less c =
     let s = c .before .before .before .before .before .before .before .before .before .before .args .s .now in
     let l = c .before .before .before .before .before .before .before .loop in
-    let i = record-inside s (l .cursor .at) _ (sym (c .before .before .before .before .take .ensures) ∙ c .before .before .r .given .1) in
+    let i = record-inside s (l .cursor .at) _ (sym (c .before .before .before .before .take-record .ensures) ∙ c .before .before .r .given .1) in
     omega arith
 
 loop-again : tie.Need-loop-again Inv-loop μ-loop
 loop-again c =
     let s = c .before .before .before .before .before .before .before .before .before .before .args .s .now in
     let l = c .before .before .before .before .before .before .before .loop in
-    let e = sym (c .before .before .before .before .take .ensures) ∙ c .before .before .r .given .1 in
+    let e = sym (c .before .before .before .before .take-record .ensures) ∙ c .before .before .r .given .1 in
     let i = record-inside s (l .cursor .at) _ e in
     let n = noted-counts (l .seen) _ (c .note .result) (c .note .ensures) in (
       l .inv .0 ∙ accepted-next s (l .cursor .at) (l .seen) _ e ∙ sym (ap (λ (x : Seen). acceptedFrom s (c .before .before .r .given .0 .0 .end) x) (c .note .ensures)),
@@ -81,7 +81,7 @@ is-acceptable-spec =
     μ-loop
     returns
     loop-holds
-    take-requires
+    take-record-requires
     enum-known-r
     enum-told
     returns-2

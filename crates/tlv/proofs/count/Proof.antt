@@ -18,8 +18,8 @@ abbrev μ-loop : tie.MeasureT-loop
 loop-holds : tie.Need-loop-holds Inv-loop μ-loop
 loop-holds c = (counted-start (c .before .args .s .now), omega arith)
 
-take-requires : tie.Need-take-requires Inv-loop μ-loop
-take-requires c κs = search needs
+take-record-requires : tie.Need-take-record-requires Inv-loop μ-loop
+take-record-requires c κs = search needs
 
 enum-known-record : tie.Need-enum-known-record Inv-loop μ-loop
 enum-known-record c = search needs
@@ -30,7 +30,7 @@ enum-told c = search needs
 returns : tie.Need-returns Inv-loop μ-loop
 returns c =
     let l = c .before .before .before .before .before .loop in
-    sym (l .inv .0 ∙ counted-unreadable (c .before .before .before .before .before .before .before .args .s .now) (l .cursor .at) (l .n) (c .before .before .before .if1 .taken) (sym (c .before .before .take .ensures) ∙ c .enum-told .given .1))
+    sym (l .inv .0 ∙ counted-unreadable (c .before .before .before .before .before .before .before .args .s .now) (l .cursor .at) (l .n) (c .before .before .before .if1 .taken) (sym (c .before .before .take-record .ensures) ∙ c .enum-told .given .1))
 
 add-n : tie.Need-add-n Inv-loop μ-loop
 add-n c = omega arith
@@ -38,14 +38,14 @@ add-n c = omega arith
 loop-less : tie.Need-loop-less Inv-loop μ-loop
 loop-less c =
     let l = c .before .before .before .before .before .before .loop in
-    let i = record-inside (c .before .before .before .before .before .before .before .before .args .s .now) (l .cursor .at) _ (sym (c .before .before .before .take .ensures) ∙ c .before .«record» .given .1) in
+    let i = record-inside (c .before .before .before .before .before .before .before .before .args .s .now) (l .cursor .at) _ (sym (c .before .before .before .take-record .ensures) ∙ c .before .«record» .given .1) in
     omega arith
 
 loop-again : tie.Need-loop-again Inv-loop μ-loop
 loop-again c =
     let l = c .before .before .before .before .before .before .loop in
     let s = c .before .before .before .before .before .before .before .before .args .s .now in
-    let e = sym (c .before .before .before .take .ensures) ∙ c .before .«record» .given .1 in
+    let e = sym (c .before .before .before .take-record .ensures) ∙ c .before .«record» .given .1 in
     let i = record-inside s (l .cursor .at) _ e in
     (l .inv .0 ∙ counted-next s (l .cursor .at) (l .n) _ e, omega arith)
 
@@ -61,7 +61,7 @@ count-spec =
     Inv-loop
     μ-loop
     loop-holds
-    take-requires
+    take-record-requires
     enum-known-record
     enum-told
     returns

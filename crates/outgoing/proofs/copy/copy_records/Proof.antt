@@ -19,8 +19,8 @@ abbrev μ-loop : tie.MeasureT-loop
 loop-holds : tie.Need-loop-holds Inv-loop μ-loop
 loop-holds c = (rw (copies-start _ _) (going-start _ _ _ (c .before .before .pre)), refl)
 
-take-requires : tie.Need-take-requires Inv-loop μ-loop
-take-requires c κs = search needs
+take-record-requires : tie.Need-take-record-requires Inv-loop μ-loop
+take-record-requires c κs = search needs
 
 enum-known-r : tie.Need-enum-known-r Inv-loop μ-loop
 enum-known-r c = search needs
@@ -32,28 +32,28 @@ same-length : tie.Need-same-length Inv-loop μ-loop
 same-length c = search needs
 
 returns : tie.Need-returns Inv-loop μ-loop
-returns c = going-end (c .before .before .before .before .before .loop .inv .0) (copies-unreadable _ _ _ (c .before .before .before .if1 .taken) (sym (c .before .before .take .ensures) ∙ c .enum-told .given .1))
+returns c = going-end (c .before .before .before .before .before .loop .inv .0) (copies-unreadable _ _ _ (c .before .before .before .if1 .taken) (sym (c .before .before .take-record .ensures) ∙ c .enum-told .given .1))
 
 is-chosen-requires : tie.Need-is-chosen-requires Inv-loop μ-loop
 is-chosen-requires c κs = search needs
 
 sub-copy-if : tie.Need-sub-copy-if Inv-loop μ-loop
-sub-copy-if c = let i = record-inside (c .before .before .before .before .before .before .before .before .before .before .args .s .now) (c .before .before .before .before .before .before .before .loop .cursor .at) _ (sym (c .before .before .before .before .take .ensures) ∙ c .before .before .r .given .1) in omega arith
+sub-copy-if c = let i = record-inside (c .before .before .before .before .before .before .before .before .before .before .args .s .now) (c .before .before .before .before .before .before .before .loop .cursor .at) _ (sym (c .before .before .before .before .take-record .ensures) ∙ c .before .before .r .given .1) in omega arith
 
 part-copy-if-start : tie.Need-part-copy-if-start Inv-loop μ-loop
-part-copy-if-start c = let i = record-inside (c .before .before .before .before .before .before .before .before .before .before .args .s .now) (c .before .before .before .before .before .before .before .loop .cursor .at) _ (sym (c .before .before .before .before .take .ensures) ∙ c .before .before .r .given .1) in omega arith
+part-copy-if-start c = let i = record-inside (c .before .before .before .before .before .before .before .before .before .before .args .s .now) (c .before .before .before .before .before .before .before .loop .cursor .at) _ (sym (c .before .before .before .before .take-record .ensures) ∙ c .before .before .r .given .1) in omega arith
 
 part-copy-if-end : tie.Need-part-copy-if-end Inv-loop μ-loop
-part-copy-if-end c = let i = record-inside (c .before .before .before .before .before .before .before .before .before .before .args .s .now) (c .before .before .before .before .before .before .before .loop .cursor .at) _ (sym (c .before .before .before .before .take .ensures) ∙ c .before .before .r .given .1) in omega arith
+part-copy-if-end c = let i = record-inside (c .before .before .before .before .before .before .before .before .before .before .args .s .now) (c .before .before .before .before .before .before .before .loop .cursor .at) _ (sym (c .before .before .before .before .take-record .ensures) ∙ c .before .before .r .given .1) in omega arith
 
 copy-if-requires : tie.Need-copy-if-requires Inv-loop μ-loop
 copy-if-requires c κs = going-most (c .before .before .before .before .before .before .before .before .before .loop .inv .0)
 
 loop-less : tie.Need-loop-less Inv-loop μ-loop
-loop-less c = let i = record-inside (c .before .before .before .before .before .before .before .before .before .before .before .before .before .before .before .args .s .now) (c .before .before .before .before .before .before .before .before .before .before .before .before .loop .cursor .at) _ (sym (c .before .before .before .before .before .before .before .before .before .take .ensures) ∙ c .before .before .before .before .before .before .before .r .given .1) in omega arith
+loop-less c = let i = record-inside (c .before .before .before .before .before .before .before .before .before .before .before .before .before .before .before .args .s .now) (c .before .before .before .before .before .before .before .before .before .before .before .before .loop .cursor .at) _ (sym (c .before .before .before .before .before .before .before .before .before .take-record .ensures) ∙ c .before .before .before .before .before .before .before .r .given .1) in omega arith
 
 loop-again : tie.Need-loop-again Inv-loop μ-loop
-loop-again c = (going-record _ _ _ _ _ (sym (c .before .before .before .before .before .before .before .before .before .take .ensures) ∙ c .before .before .before .before .before .before .before .r .given .1) (c .before .before .before .before .before .is-chosen .ensures) (c .before .before .before .before .before .before .before .before .before .before .before .before .loop .inv .0) (c .before .before .copy-if .ensures), c .before .before .copy-if .ensures .kept ∙ c .before .before .before .before .before .before .before .before .before .before .before .before .loop .inv .1)
+loop-again c = (going-record _ _ _ _ _ (sym (c .before .before .before .before .before .before .before .before .before .take-record .ensures) ∙ c .before .before .before .before .before .before .before .r .given .1) (c .before .before .before .before .before .is-chosen .ensures) (c .before .before .before .before .before .before .before .before .before .before .before .before .loop .inv .0) (c .before .before .copy-if .ensures), c .before .before .copy-if .ensures .kept ∙ c .before .before .before .before .before .before .before .before .before .before .before .before .loop .inv .1)
 
 same-length-2 : tie.Need-same-length-2 Inv-loop μ-loop
 same-length-2 c = search needs
@@ -68,7 +68,7 @@ copy-records-spec =
     Inv-loop
     μ-loop
     loop-holds
-    take-requires
+    take-record-requires
     enum-known-r
     enum-told
     same-length

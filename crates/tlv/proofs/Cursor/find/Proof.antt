@@ -18,8 +18,8 @@ abbrev μ-loop : tie.MeasureT-loop
 loop-holds : tie.Need-loop-holds Inv-loop μ-loop
 loop-holds c = refl
 
-take-requires : tie.Need-take-requires Inv-loop μ-loop
-take-requires c κs = search needs
+take-record-requires : tie.Need-take-record-requires Inv-loop μ-loop
+take-record-requires c κs = search needs
 
 enum-known-record : tie.Need-enum-known-record Inv-loop μ-loop
 enum-known-record c = search needs
@@ -31,26 +31,26 @@ returns : tie.Need-returns Inv-loop μ-loop
 returns c =
     let l = c .before .before .before .before .before .loop in
     let a = c .before .before .before .before .before .before .before .args in
-    sym (l .inv ∙ found-unreadable (a .s .now) (l .cursor .at) (a .kind) (c .before .before .before .if1 .taken) (sym (c .before .before .take .ensures) ∙ c .enum-told .given .1))
+    sym (l .inv ∙ found-unreadable (a .s .now) (l .cursor .at) (a .kind) (c .before .before .before .if1 .taken) (sym (c .before .before .take-record .ensures) ∙ c .enum-told .given .1))
 
 returns-2 : tie.Need-returns-2 Inv-loop μ-loop
 returns-2 c =
     let l = c .before .before .before .before .before .before .before .before .loop in
     let a = c .before .before .before .before .before .before .before .before .before .before .args in
     let r = c .before .before .before .«record» .given .0 .0 in
-    sym (l .inv ∙ found-here (a .s .now) (l .cursor .at) (a .kind) r (sym (c .before .before .before .before .before .take .ensures) ∙ c .before .before .before .«record» .given .1) (c .if2 .taken))
+    sym (l .inv ∙ found-here (a .s .now) (l .cursor .at) (a .kind) r (sym (c .before .before .before .before .before .take-record .ensures) ∙ c .before .before .before .«record» .given .1) (c .if2 .taken))
 
 loop-less : tie.Need-loop-less Inv-loop μ-loop
 loop-less c =
     let l = c .before .before .before .before .before .before .before .before .loop in
-    let i = record-inside (c .before .before .before .before .before .before .before .before .before .before .args .s .now) (l .cursor .at) _ (sym (c .before .before .before .before .before .take .ensures) ∙ c .before .before .before .«record» .given .1) in
+    let i = record-inside (c .before .before .before .before .before .before .before .before .before .before .args .s .now) (l .cursor .at) _ (sym (c .before .before .before .before .before .take-record .ensures) ∙ c .before .before .before .«record» .given .1) in
     omega arith
 
 loop-again : tie.Need-loop-again Inv-loop μ-loop
 loop-again c =
     let l = c .before .before .before .before .before .before .before .before .loop in
     let a = c .before .before .before .before .before .before .before .before .before .before .args in
-    l .inv ∙ found-next (a .s .now) (l .cursor .at) (a .kind) _ (sym (c .before .before .before .before .before .take .ensures) ∙ c .before .before .before .«record» .given .1) (c .if2 .left)
+    l .inv ∙ found-next (a .s .now) (l .cursor .at) (a .kind) _ (sym (c .before .before .before .before .before .take-record .ensures) ∙ c .before .before .before .«record» .given .1) (c .if2 .left)
 
 returns-3 : tie.Need-returns-3 Inv-loop μ-loop
 returns-3 c =
@@ -65,7 +65,7 @@ find-spec =
     Inv-loop
     μ-loop
     loop-holds
-    take-requires
+    take-record-requires
     enum-known-record
     enum-told
     returns

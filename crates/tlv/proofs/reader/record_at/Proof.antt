@@ -1,9 +1,9 @@
--- `Cursor::take` meets its contract: a step of the definition at each answer.
+-- `reader::record_at` meets its contract: a step of the definition at each answer.
 use mathlib.Core.Path.{sym, ap, _∙_}
 use Rattle.tlv.specs.Record.{recordAt, ofKind, ofValue}
 use borrow.Author.Needs.{needs}
-use Rattle.tlv.proofs.Cursor.take.Statement.{statement}
-use Rattle.tlv.proofs.Cursor.take.Tie as tie
+use Rattle.tlv.proofs.reader.record_at.Statement.{statement}
+use Rattle.tlv.proofs.reader.record_at.Tie as tie
 
 read-requires : tie.Need-read-requires
 read-requires c κs = search needs
@@ -41,8 +41,8 @@ returns-3 c =
     let s = c .before .before .before .before .before .before .before .before .before .args .s .now in
     sym (ap (ofKind s) (sym (c .before .before .before .before .before .before .before .read .ensures) ∙ c .before .before .before .before .before .kind .given .1) ∙ ap (ofValue _) (sym (c .before .before .before .read-delimited .ensures) ∙ c .before .start .given .1))
 
-pub take-spec : {M : Type 1} → statement M
-take-spec =
+pub record-at-spec : {M : Type 1} → statement M
+record-at-spec =
     tie.close
     (tie.spec
     read-requires
