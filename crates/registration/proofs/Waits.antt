@@ -8,7 +8,8 @@ use borrow.Author.Tests.{lt-ltb, le-ltb}
 use Rattle.schedule.specs.declared.Length.{Length}
 use Rattle.state.specs.declared.Device.{Device}
 use Rattle.state.specs.declared.Registration.{Registration}
-use Rattle.registration.specs.Backoff.{firstWait, halfUp, backoffOf, restOf, doubled, intervals, Samples}
+use Rattle.registration.specs.declared.wait.Schedule.{Schedule}
+use Rattle.registration.specs.Backoff.{firstWait, halfUp, backoffOf, restOf, doubled, advancedOf, intervals, Samples}
 
 module _ (d : Device) (r : Registration) (random : ℕ) where
   pub wait-none : r .immediate ≡ true → firstWait d r random ≡ record { 0 = 0 }
@@ -54,6 +55,14 @@ module _ (i largest : Length) where
   pub doubled-stops : largest .0 ≤ i .0 * 2 → doubled i largest ≡ largest
   unfolding doubled
   doubled-stops h = rw (le-ltb (i .0 * 2) (largest .0) h)
+
+pub advanced-is : (s : Schedule) (i : Length) → i ≡ doubled (s .interval) (s .largest) → record { interval = i; largest = s .largest } ≡ advancedOf s
+unfolding advancedOf
+advanced-is s i e = rw e
+
+pub advanced-interval : (s : Schedule) → advancedOf s .interval ≡ doubled (s .interval) (s .largest)
+unfolding advancedOf
+advanced-interval s = refl
 
 pub samples-hold : Samples
 unfolding intervals doubled

@@ -5,6 +5,7 @@ use mathlib.Core.List.{List, [], _∷_}
 use lib.Dec.{ltb}
 use Rattle.buffer.specs.Pick.{pick}
 use Rattle.schedule.specs.declared.Length.{Length}
+use Rattle.registration.specs.declared.wait.Schedule.{Schedule}
 use Rattle.state.specs.declared.Device.{Device}
 use Rattle.state.specs.declared.Registration.{Registration}
 
@@ -27,6 +28,10 @@ restOf i wait = record { 0 = i .0 - wait .0 }
 -- the interval then doubles and stops at the largest
 unfoldable pub doubled : Length → Length → Length
 doubled i largest = pick (ltb (i .0 * 2) (largest .0)) (record { 0 = i .0 * 2 }) largest
+
+-- the schedule behind a round: the interval then doubles and stops at the largest, which stays
+unfoldable pub advancedOf : Schedule → Schedule
+advancedOf s = record { interval = doubled (s .interval) (s .largest); largest = s .largest }
 
 -- the intervals of so many rounds, one after the other
 unfoldable pub intervals : ℕ → Length → Length → List ℕ

@@ -29,7 +29,7 @@ pub fn take_round(device: Device, registration: Registration) -> Registration
     ensures { λ r. ⌜ r ≡ roundTaken device registration ⌝ }
 {
     let largest = device.interval_max;
-    let interval = wait::double(registration.interval, largest);
+    let interval = wait::next_interval(registration.interval, largest);
     let mut next = take_id(registration);
     next.awaited = true;
     next.round = registration.message_id;

@@ -4,7 +4,7 @@ use state::Device;
 use state::Registration;
 ghost use mathlib.Core.Path.{_≡_};
 ghost use Prim.Native.Nat.{_≤_};
-ghost use Rattle.registration.specs.Backoff.{firstWait, halfUp, backoffOf, restOf, doubled};
+ghost use Rattle.registration.specs.Backoff.{firstWait, halfUp, backoffOf, restOf, doubled, advancedOf};
 
 // The wait before the first round: at most the smallest interval, none where a redirect marked immediate started registration.
 pub fn first_wait(device: Device, registration: Registration, random: u32) -> Length
@@ -44,7 +44,7 @@ pub fn rest_of(interval: Length, wait: Length) -> Length
 }
 
 // The interval after a round: doubled, up to the largest.
-pub fn double(interval: Length, largest: Length) -> Length
+fn double(interval: Length, largest: Length) -> Length
     ensures { λ r. ⌜ r ≡ doubled interval largest ⌝ }
 {
     let twice = interval.0 as u64 * 2;
@@ -52,4 +52,39 @@ pub fn double(interval: Length, largest: Length) -> Length
         return Length(twice as u32);
     }
     largest
+}
+
+// The interval of the next round, and the largest one.
+pub struct Schedule {
+    pub interval: Length,
+    pub largest: Length,
+}
+
+// The schedule behind a round, by value: the interval doubles and stops at the largest.
+fn advanced(s: Schedule) -> Schedule
+    ensures { λ r. ⌜ r ≡ advancedOf s ⌝ }
+{
+    let interval = s.interval;
+    let largest = s.largest;
+    let next = double(interval, largest);
+    Schedule {
+        interval: next,
+        largest,
+    }
+}
+
+// The same, in place.
+fn advance(s: &mut Schedule)
+    ensures { λ _. ⌜ now (s .exit) ≡ advancedOf (now (s .entry)) ⌝ }
+{
+    *s = advanced(*s);
+}
+
+// The interval behind one: what a round calls.
+pub fn next_interval(interval: Length, largest: Length) -> Length
+    ensures { λ next. ⌜ next ≡ doubled interval largest ⌝ }
+{
+    let mut s = Schedule { interval, largest };
+    advance(&mut s);
+    s.interval
 }

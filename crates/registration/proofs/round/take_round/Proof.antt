@@ -4,14 +4,14 @@ use borrow.Author.Needs.{needs}
 use Rattle.registration.proofs.round.take_round.Statement.{statement}
 use Rattle.registration.proofs.round.take_round.Tie as tie
 
-double-requires : tie.Need-double-requires
-double-requires c κs = search needs
+next-interval-requires : tie.Need-next-interval-requires
+next-interval-requires c κs = search needs
 
 take-id-requires : tie.Need-take-id-requires
 take-id-requires c κs = search needs
 
 returns : tie.Need-returns
-returns c = round-taken _ _ _ _ (c .take-id .ensures) (c .before .double .ensures)
+returns c = round-taken _ _ _ _ (c .take-id .ensures) (c .before .next-interval .ensures)
 
 pub take-round-spec : {M : Type 1} → statement M
-take-round-spec = tie.close (tie.spec double-requires take-id-requires returns)
+take-round-spec = tie.close (tie.spec next-interval-requires take-id-requires returns)
