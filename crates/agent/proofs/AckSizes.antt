@@ -11,6 +11,7 @@ use lib.ListN.{length, length-take}
 use Rattle.ack.specs.Learn.{nothingLearnt, marked, redirectNoted, sessionIdOf, inSession, withSession, sessionNoted, withReport, reportNoted, pushed, grouped, withGroup, groupNoted, validityNoted, signatureNoted, noted, learntOf, learntFrom}
 use Rattle.ack.specs.Take.{isAwaited, isTakable, regrouped, acceptedBy, takenBy, acknowledged}
 use Rattle.ack.specs.declared.note.Learnt.{Learnt}
+use Rattle.buffer.proofs.Tests.{pick-both, both}
 use Rattle.buffer.specs.Pick.{pick}
 use Rattle.csmp.specs.Read.{atMost, plain, redirectOf, sessionOf, withId, withEntry, withField, withFields, listedIn, reportOf, groupOf, validityOf}
 use Rattle.decimal.specs.Decimal.{idOf}
@@ -35,13 +36,7 @@ use Rattle.state.specs.declared.Device.{Device}
 use Rattle.state.specs.declared.Registration.{Registration}
 use Rattle.state.specs.declared.State.{State}
 use Rattle.tlv.specs.Record.{Tlv, records, readable}
-use Rattle.transfer.proofs.Puts.{both}
 use Rattle.agent.specs.Made.{DeviceSized, AssignedSized, RegistrationSized, Sized}
-
--- what holds of both answers holds of the one picked
-pub pick-both : {A : Type 0} (P : A → Type 0) (t : Bool) (a b : A) → (t ≡ true → P a) → (t ≡ false → P b) → P (pick t a b)
-pick-both P true a b f g = f refl
-pick-both P false a b f g = g refl
 
 -- bytes over their size make a value unreadable
 bytes-short : (n : ℕ) (v : List ℕ) (b : Bytes) → atMost n b ≡ true → IfAny (λ (l : List ℕ). length l ≤ n) (bytesGiven v b)

@@ -8,6 +8,7 @@ use native.Mathlib.Omega.{arith}
 use borrow.Author.Tests.{eqb-true, eqb-false, not-true, ne-eqb}
 use lib.Dec.{eqb, ltb}
 use lib.ListN.{length, drop}
+use Rattle.buffer.proofs.Tests.{split, both, neither}
 use Rattle.buffer.specs.Pick.{pick}
 use Rattle.coap.specs.Frame.{frameOf}
 use Rattle.coap.specs.declared.Datagram.{Datagram}
@@ -30,8 +31,8 @@ use Rattle.state.specs.declared.Device.{Device}
 use Rattle.state.specs.declared.Registration.{Registration}
 use Rattle.tlv.specs.Record.{Tlv}
 use Rattle.transfer.specs.Block.{Flash, Offer, Sound, isHash, offered, putBlock, takeBlock}
-use Rattle.transfer.specs.Merge.{Merge, none as neither, first, second, putAll, Agreeing, Ended}
-use Rattle.transfer.proofs.Puts.{both, put-hash, put-length}
+use Rattle.transfer.specs.Merge.{Merge, none as nothing, first, second, putAll, Agreeing, Ended}
+use Rattle.transfer.proofs.Puts.{put-hash, put-length}
 use Rattle.transfer.proofs.Merges.{merges}
 use Rattle.transfer.proofs.Ends.{ends, ends-none}
 use Rattle.agent.specs.Class.{isRequest, classOf}
@@ -80,29 +81,16 @@ ignored d r v h = go (urlIn v) h (isSet (redirectOf v .immediate))
     go (some []) h b = refl
     go (some (x ∷ xs)) h b = let z : _≡_ {A = ℕ} 0 1 = cc in absurd (omega arith)
 
--- neither of two tests
-split : {X : Type 0} (t : Bool) → (t ≡ true → X) → (t ≡ false → X) → X
-split true y n = y refl
-split false y n = n refl
-
-or-left : (a b : Bool) → (a || b) ≡ false → a ≡ false
-or-left true b h = let z : _≡_ {A = ℕ} 0 1 = cc in absurd (omega arith)
-or-left false b h = refl
-
-or-right : (a b : Bool) → (a || b) ≡ false → b ≡ false
-or-right true b h = let z : _≡_ {A = ℕ} 0 1 = cc in absurd (omega arith)
-or-right false b h = h
-
 -- a record that does not steer, other than a block, changes nothing
 module _ (d : Device) (w : World) (t : Tlv) (h : steers t ≡ false) where
   skipped : eqb (t .kind) 67 ≡ false → act d w (t .kind) (t .value) ≡ w
   unfolding steers act
   skipped k =
-      let h1 = or-right (eqb (t .kind) 65) _ h in
-      let h2 = or-right (eqb (t .kind) 68) _ h1 in
-      let h3 = or-right (eqb (t .kind) 69) _ h2 in
-      let h4 = or-right (eqb (t .kind) 70) _ h3 in
-      rw (or-left (eqb (t .kind) 65) _ h, k, or-left (eqb (t .kind) 68) _ h1, or-left (eqb (t .kind) 69) _ h2, or-left (eqb (t .kind) 70) _ h3)
+      let h1 = neither (eqb (t .kind) 65) _ h .1 in
+      let h2 = neither (eqb (t .kind) 68) _ h1 .1 in
+      let h3 = neither (eqb (t .kind) 69) _ h2 .1 in
+      let h4 = neither (eqb (t .kind) 70) _ h3 .1 in
+      rw (neither (eqb (t .kind) 65) _ h .0, k, neither (eqb (t .kind) 68) _ h1 .0, neither (eqb (t .kind) 69) _ h2 .0, neither (eqb (t .kind) 70) _ h3 .0)
       (go (eqb (t .kind) 6) h4)
     where
       go : (u : Bool) → (u && followed (urlIn (t .value))) ≡ false
@@ -137,8 +125,8 @@ fed : (d : Device) (w : World) (ts : List Tlv) → w .images .«open» ≡ true 
 unfolding ran anySteers offers putAll
 fed d w [] o h = refl
 fed d w (t ∷ ts) o h =
-    let a = or-left (steers t) (anySteers ts) h in
-    let r = or-right (steers t) (anySteers ts) h in
+    let a = neither (steers t) (anySteers ts) h .0 in
+    let r = neither (steers t) (anySteers ts) h .1 in
     split (eqb (t .kind) 67)
     (λ e. rw (taken d w t e o, e) (block d ts w (t .value) (offered (w .images .image) (t .value)) refl (λ n q. fed d n ts (q ∙ o) r)))
     (λ e. rw (skipped d w t a e, e) (fed d w ts o r))
@@ -295,13 +283,13 @@ module _ (k : Kept) (o : k .state .images .«open» ≡ true) where
 
   merge-brought : {xs ys zs : List Call} → Merge xs ys zs → Merge (brought k xs) (brought k ys) (brought k zs)
   unfolding brought
-  merge-brought neither = neither
+  merge-brought nothing = nothing
   merge-brought (first {a = c} m) = merge-more (offers (k .state .images .image) (runs k c)) (merge-brought m)
   merge-brought (second {b = c} m) = merge-other (offers (k .state .images .image) (runs k c)) (merge-brought m)
 
   -- of feeds it is a feed
   merge-feed : {xs ys zs : List Call} → Merge xs ys zs → Feed k xs → Feed k ys → Feed k zs
-  merge-feed neither a b = tt
+  merge-feed nothing a b = tt
   merge-feed (first m) a b = (a .0, merge-feed m (a .1) b)
   merge-feed (second m) a b = (b .0, merge-feed m a (b .1))
 

@@ -9,6 +9,7 @@ use borrow.Author.Tests.{ltb-true, ltb-false, leb-true, eqb-true, eqb-false, not
 use lib.Dec.{eqb, ltb, leb}
 use lib.ListN.{length, take, drop, getD, replicate, getD-replicate}
 use lib.Seq.{length-sets}
+use Rattle.buffer.proofs.Tests.{pick-both, both, neither}
 use Rattle.buffer.specs.Same.{sameBytes}
 use Rattle.coap.specs.Frame.{frameOf}
 use Rattle.coap.specs.declared.Datagram.{Datagram}
@@ -51,19 +52,15 @@ use Rattle.transfer.specs.Bitmap.{bit, held}
 use Rattle.transfer.specs.Block.{Flash, Offer, offered, putBlock, putOffer, takeBlock}
 use Rattle.transfer.specs.Blocks.{blocks}
 use Rattle.transfer.proofs.Marks.{length-marked, held-other}
-use Rattle.transfer.proofs.Puts.{both, fits-told, put-cases}
+use Rattle.transfer.proofs.Puts.{fits-told, put-cases}
 use Rattle.agent.specs.Boot.{bootOf}
 use Rattle.agent.specs.Class.{classOf}
 use Rattle.agent.specs.Datagram.{Call, Effect, worldIn, refusal, servedAs, served, replied, classed, received, datagramOf}
 use Rattle.agent.specs.Made.{Made, set, called, rounded, reported, booted as reborn, Between, DeviceSized, OpenSized, ImagesSized, RegistrationSized, Sized, MadeSized}
 use Rattle.agent.proofs.OwnSizes.{round-sized, report-sized}
-use Rattle.agent.proofs.AckSizes.{pick-both, redirect-sized, acknowledged-sized}
+use Rattle.agent.proofs.AckSizes.{redirect-sized, acknowledged-sized}
 use Rattle.agent.specs.declared.class.Class.{Class}
 use Rattle.agent.specs.declared.class.Class.the-variants.{Request, Acknowledgement, Rejected, Ignored}
-
-neither : (t u : Bool) → (t || u) ≡ false → (t ≡ false) × (u ≡ false)
-neither true u e = absurd (true≢false e)
-neither false u e = (refl, e)
 
 -- setup: texts and settings that are valid are sized
 within-told : (low n high : ℕ) → within low n high ≡ true → Between low n high

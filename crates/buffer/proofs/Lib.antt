@@ -1,3 +1,4 @@
+pub mod Tests
 pub mod Puts
 pub mod Sames
 pub mod Stretches

@@ -1,3 +1,4 @@
+pub mod Listed
 pub mod Pick
 pub mod Put
 pub mod Same

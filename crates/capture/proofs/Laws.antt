@@ -9,7 +9,8 @@ use lib.ListN.{length, take, drop, length-drop, drop-of-length-le, List·getD-eq
 use lib.Seq.{take-all, drop-length, drop-drop}
 use Rattle.buffer.specs.declared.Stretch.{Stretch}
 use Rattle.buffer.specs.declared.Stretch.the-variants.{To, Outside}
-use Rattle.capture.specs.Read.{byteAt, wide16, wide32, entryIn, bytesAt, endFrom, indexIn, trailerOf, distanceIn, countIn, framed, captureIn}
+use Rattle.capture.specs.Read.{byteAt, wide16, wide32, entryIn, bytesAt, endFrom, indexIn, trailerOf, distanceIn, countIn, framed, captureIn, outcomeOf}
+use Rattle.capture.specs.declared.Capture.{Capture}
 use Rattle.capture.specs.declared.Capture.the-variants.{Index, Malformed}
 use Rattle.capture.specs.declared.Entry.{Entry}
 
@@ -139,3 +140,12 @@ module _ (s : List ℕ) where
 pub bytes-are : (s : List ℕ) (start len : ℕ) {f r : List ℕ} → r ≡ drop start s → f ≡ take len r → f ≡ bytesAt s start len
 unfolding bytesAt
 bytes-are s start len h k = rw h at k
+
+-- the outcome of each case
+pub outcome-index : (c : Capture) (index count : ℕ) → c ≡ Index index count → 0 ≡ outcomeOf c
+unfolding outcomeOf
+outcome-index c index count e = rw e
+
+pub outcome-malformed : (c : Capture) → c ≡ Malformed → 12 ≡ outcomeOf c
+unfolding outcomeOf
+outcome-malformed c e = rw e

@@ -59,6 +59,11 @@ captureIn s =
     pick (framed s)
     (indexIn (length s - distanceIn s) (countIn s) (endFrom (countIn s) (drop (length s - distanceIn s) s) 0)) Malformed
 
+-- refusal 12: capture file malformed
+unfoldable pub outcomeOf : Capture → ℕ
+outcomeOf (Index index count) = 0
+outcomeOf Malformed = 12
+
 -- the entries, in the index's order
 unfoldable pub entriesFrom : ℕ → List ℕ → List Entry
 entriesFrom zero rows = []

@@ -4,7 +4,7 @@ use schedule::Point;
 ghost use mathlib.Core.Path.{_≡_};
 ghost use Prim.Native.Nat.{_≤_};
 ghost use lib.ListN.{drop};
-ghost use Rattle.capture.specs.Read.{byteAt, wide16, wide32, entryIn, bytesAt, endFrom, indexIn, captureIn};
+ghost use Rattle.capture.specs.Read.{byteAt, wide16, wide32, entryIn, bytesAt, endFrom, indexIn, captureIn, outcomeOf};
 
 // Where the index begins and how many entries it has, or that the file is none.
 pub enum Capture {
@@ -88,6 +88,16 @@ fn end_of(rows: &[u8], count: u16) -> Stretch
         i += 1;
     }
     Stretch::To(end)
+}
+
+// What reading a file comes to: 12 where it is malformed.
+pub fn outcome_of(capture: Capture) -> u32
+    ensures { λ r. ⌜ r ≡ outcomeOf capture ⌝ }
+{
+    match capture {
+        Capture::Index(_, _) => 0,
+        Capture::Malformed => 12,
+    }
 }
 
 // The index of a file that is a capture.

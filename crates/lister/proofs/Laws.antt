@@ -11,7 +11,7 @@ use Rattle.agent.specs.declared.Answer.{Answer}
 use Rattle.buffer.specs.Put.{Put, Appended}
 use Rattle.buffer.proofs.Puts.{appended-put, appended-none, appended-join}
 use Rattle.decimal.specs.Decimal.{decimal}
-use Rattle.lister.specs.Line.{hexDigit, hexByte, hexOf, shown, field, lineOf, Listed}
+use Rattle.lister.specs.Line.{hexDigit, hexByte, hexOf, shown, field, lineOf, refusalLine, Listed}
 
 pub digit-low : (n : ℕ) → n < 10 → 48 + n ≡ hexDigit n
 unfolding hexDigit
@@ -79,6 +79,13 @@ line-join n outcome reply p q e r t u =
     appended-join (field n) (field outcome ++ (field (length reply) ++ (shown reply ++ (10 ∷ [])))) p
     (appended-join (field outcome) (field (length reply) ++ (shown reply ++ (10 ∷ []))) q
     (appended-join (field (length reply)) (shown reply ++ (10 ∷ [])) (rw e at r) (appended-join (shown reply) (10 ∷ []) t (appended-put u))))
+
+pub refusal-join : (outcome : ℕ) {out w x y left : List ℕ} {a b c end : ℕ} → Put out 0 (45 ∷ 32 ∷ []) w a → Appended w a (field outcome) x b
+    → Appended x b (field 0) y c → Put y c (45 ∷ 10 ∷ []) left end → Appended out 0 (refusalLine outcome) left end
+unfolding refusalLine
+refusal-join outcome p q r t =
+    appended-join (45 ∷ 32 ∷ []) (field outcome ++ (field 0 ++ (45 ∷ 10 ∷ []))) (appended-put p)
+    (appended-join (field outcome) (field 0 ++ (45 ∷ 10 ∷ [])) q (appended-join (field 0) (45 ∷ 10 ∷ []) r (appended-put t)))
 
 -- what the call leaves at the front of its output is its reply
 module _ (e : Effect) {zeros buf flash : List ℕ} {a : Answer} (l : Left e zeros a flash buf) (z : length zeros ≡ 1280) where

@@ -56,6 +56,14 @@ field n = decimal n ++ (32 ∷ [])
 unfoldable pub lineOf : ℕ → ℕ → List ℕ → List ℕ
 lineOf n outcome reply = field n ++ (field outcome ++ (field (length reply) ++ (shown reply ++ (10 ∷ []))))
 
+-- `n outcome len reply`
+unfoldable pub header : List ℕ
+header = 110 ∷ 32 ∷ 111 ∷ 117 ∷ 116 ∷ 99 ∷ 111 ∷ 109 ∷ 101 ∷ 32 ∷ 108 ∷ 101 ∷ 110 ∷ 32 ∷ 114 ∷ 101 ∷ 112 ∷ 108 ∷ 121 ∷ 10 ∷ []
+
+-- a malformed file gives only the header and `- 12 0 -`
+unfoldable pub refusalLine : ℕ → List ℕ
+refusalLine outcome = (45 ∷ 32 ∷ []) ++ (field outcome ++ (field 0 ++ (45 ∷ 10 ∷ [])))
+
 -- what listing an entry leaves: its line, the state and the image after the call
 pub record Listed (n : ℕ) (e : Effect) (out : List ℕ) (r : Line) (flash left : List ℕ) : Type 0 where
   pub line : Appended out 0 (lineOf n (e .outcome) (e .reply)) left (r .len)

@@ -77,11 +77,24 @@ fn list_entries(s: &[u8], index: u32, count: u16) {
     }
 }
 
+fn list_header() {
+    let mut out = [0u8; 32];
+    let n = text::put_header(&mut out, 0);
+    lines::word(buffer::front(&out, n));
+}
+
+fn list_refusal(outcome: u32) {
+    let mut out = [0u8; 32];
+    let n = text::put_refusal(&mut out, outcome);
+    lines::word(buffer::front(&out, n));
+}
+
 // Prints the listing of a file; one that is no capture has a single line.
 pub fn list(s: &[u8]) {
-    lines::word(b"n outcome len reply\n");
-    let Capture::Index(index, count) = capture::read(s) else {
-        lines::word(b"- 12 0 -\n");
+    list_header();
+    let capture = capture::read(s);
+    let Capture::Index(index, count) = capture else {
+        list_refusal(capture::outcome_of(capture));
         return;
     };
     list_entries(s, index, count);

@@ -3,7 +3,7 @@ ghost use mathlib.Core.Path.{_≡_};
 ghost use Prim.Native.Nat.{_+_, _≤_};
 ghost use lib.ListN.{length};
 ghost use Rattle.buffer.specs.Put.{Put, Appended};
-ghost use Rattle.lister.specs.Line.{hexDigit, hexByte, hexOf, shown, field, lineOf};
+ghost use Rattle.lister.specs.Line.{hexDigit, hexByte, hexOf, shown, field, lineOf, header, refusalLine};
 
 // A digit of hex, in lower case.
 fn digit(n: u8) -> u8
@@ -67,4 +67,21 @@ pub(crate) fn put_line(out: &mut [u8], n: u32, outcome: u32, reply: &[u8]) -> us
     let c = put_field(out, b, reply.len() as u32);
     let d = put_reply(out, c, reply);
     buffer::put(out, d, b"\n")
+}
+
+// The header.
+pub fn put_header(out: &mut [u8], at: usize) -> usize
+    ensures { λ r. ⌜ Put (now (out .entry)) at header (now (out .exit)) r ⌝ }
+{
+    buffer::put(out, at, b"n outcome len reply\n")
+}
+
+// The line of a file that is no capture.
+pub fn put_refusal(out: &mut [u8], outcome: u32) -> usize
+    ensures { λ r. ⌜ Appended (now (out .entry)) 0 (refusalLine outcome) (now (out .exit)) r ⌝ }
+{
+    let a = buffer::put(out, 0, b"- ");
+    let b = put_field(out, a, outcome);
+    let c = put_field(out, b, 0);
+    buffer::put(out, c, b"-\n")
 }

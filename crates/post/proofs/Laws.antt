@@ -19,7 +19,9 @@ use Rattle.tlv.specs.Record.{valued, records, readable, recordAt, recordsFrom}
 use Rattle.tlv.specs.declared.Record.{Record}
 use Rattle.tlv.specs.declared.Taken.the-variants.{Record as Whole, Unreadable}
 use Rattle.tlv.proofs.Laws.{records-end, records-more, records-unreadable}
-use Rattle.post.specs.Value.{listed, isForbidden, anyPair, hasPair, matchOf, isMatch}
+use Rattle.buffer.specs.Listed.{listed}
+use Rattle.buffer.proofs.Tests.{head}
+use Rattle.post.specs.Value.{isForbidden, anyPair, hasPair, matchOf, isMatch}
 use Rattle.post.specs.Judge.{noted, seenOf, nothingSeen, sealed, lookedAt}
 use Rattle.post.specs.declared.Seen.{Seen}
 
@@ -67,12 +69,6 @@ past l zero i h = drop-nil i
 past [] (suc n) i h = drop-nil i
 past (x ∷ xs) (suc n) zero h = absurd (omega arith)
 past (x ∷ xs) (suc n) (suc i) h = past xs n i (omega arith)
-
-head : (l : List Pair) (n i : ℕ) (d : Pair) → i < n → i < length l → drop i (take n l) ≡ getD l i d ∷ drop (suc i) (take n l)
-head l zero i d h k = absurd (omega arith)
-head [] (suc n) i d h k = absurd (omega arith)
-head (x ∷ xs) (suc n) zero d h k = refl
-head (x ∷ xs) (suc n) (suc i) d h k = head xs n i d (omega arith) (omega arith)
 
 abbrev pub noPair : Pair
 noPair = record { kind = 0; id = 0 }

@@ -4,6 +4,7 @@ use mathlib.Core.List.{List, [], _∷_}
 use mathlib.Core.Bool.{Bool, true, false, _&&_, _||_}
 use lib.ListN.{take}
 use lib.Dec.{eqb, leb, ltb}
+use Rattle.buffer.specs.Listed.{listed}
 use Rattle.buffer.specs.Pick.{pick}
 use Rattle.csmp.specs.Read.{plain, redirectOf, groupOf, transferOf, blockOf, loadOf, hashOf, validityOf}
 use Rattle.protobuf.specs.declared.Number.{Number}
@@ -56,9 +57,5 @@ unfoldable pub isMatch : ℕ → List ℕ → Groups → Bool
 isMatch k v g = eqb k 57 && matchOf g (groupOf v .kind) (groupOf v .id)
 
 -- i. 7, 8, 13, 18, 55, 58, 71 to 75
-unfoldable pub listed : ℕ → List ℕ → Bool
-listed k [] = false
-listed k (x ∷ xs) = eqb k x || listed k xs
-
 unfoldable pub isForbidden : ℕ → Bool
 isForbidden k = listed k (7 ∷ 8 ∷ 13 ∷ 18 ∷ 55 ∷ 58 ∷ []) || (leb 71 k && leb k 75)

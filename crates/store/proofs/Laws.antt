@@ -14,7 +14,8 @@ use Rattle.tlv.specs.Record.{recordAt, recordsFrom}
 use Rattle.tlv.specs.declared.Record.{Record}
 use Rattle.tlv.specs.declared.Taken.the-variants.{Record as Whole, Unreadable}
 use Rattle.tlv.proofs.Laws.{records-end, records-more, records-unreadable}
-use Rattle.store.specs.Store.{listed, reserved, noted, seenOf, fine, nothingSeen, acceptable}
+use Rattle.buffer.specs.Listed.{listed}
+use Rattle.store.specs.Store.{reserved, noted, seenOf, fine, nothingSeen, acceptable}
 use Rattle.store.specs.declared.Seen.{Seen}
 
 -- the reserved types, as a match tests them: some alone, the others by their ranges

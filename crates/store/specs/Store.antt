@@ -4,15 +4,11 @@ use mathlib.Core.List.{List, [], _∷_}
 use mathlib.Core.Bool.{Bool, false, not, _&&_, _||_}
 use lib.ListN.{length}
 use lib.Dec.{eqb, leb}
+use Rattle.buffer.specs.Listed.{listed}
 use Rattle.buffer.specs.Pick.{pick}
 use Rattle.tlv.specs.Record.{recordsFrom}
 use Rattle.tlv.specs.declared.Record.{Record}
 use Rattle.store.specs.declared.Seen.{Seen}
-
--- a number of a list
-unfoldable pub listed : ℕ → List ℕ → Bool
-listed k [] = false
-listed k (x ∷ xs) = eqb k x || listed k xs
 
 -- TlvIndex's id, or one of 6, 7, 8, 13, 18, 55, 57, 58, 65 to 77
 unfoldable pub reserved : ℕ → Bool

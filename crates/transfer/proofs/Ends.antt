@@ -10,6 +10,7 @@ use borrow.Author.Tests.{ltb-true, ltb-false, eqb-true, eqb-false, eq-eqb}
 use lib.Dec.{eqb, ltb}
 use lib.ListN.{length, take, drop}
 use lib.Seq.{sets}
+use Rattle.buffer.proofs.Tests.{split, both}
 use Rattle.buffer.specs.Pick.{pick}
 use Rattle.csmp.specs.declared.Image.{Image}
 use Rattle.transfer.specs.Bitmap.{held, allHeld, complete, withBitmap}
@@ -18,7 +19,7 @@ use Rattle.transfer.specs.Blocks.{blocks, blockLength}
 use Rattle.transfer.specs.Merge.{putAll, blockAt, came, isSome, Ended, Ends}
 use Rattle.transfer.proofs.Lengths.{length-most, block-inside, lower-before}
 use Rattle.transfer.proofs.Marks.{held-other}
-use Rattle.transfer.proofs.Puts.{split, both, fits-told, put-cases, put-size, put-block-size, put-fits, put-length, sound-put, put-holds, put-inside}
+use Rattle.transfer.proofs.Puts.{fits-told, put-cases, put-size, put-block-size, put-fits, put-length, sound-put, put-holds, put-inside}
 use Rattle.transfer.proofs.Stores.{drop-sets, stretch-sets}
 
 -- all are held exactly when each is

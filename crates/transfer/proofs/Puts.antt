@@ -8,6 +8,7 @@ use borrow.Author.Tests.{ltb-true, ltb-false, eqb-true, eqb-false}
 use lib.Dec.{eqb, ltb}
 use lib.ListN.{length, take, drop, getD}
 use lib.Seq.{sets, length-sets}
+use Rattle.buffer.proofs.Tests.{split, both}
 use Rattle.csmp.specs.declared.Image.{Image}
 use Rattle.transfer.specs.Bitmap.{held, marked, withBitmap}
 use Rattle.transfer.specs.Block.{fitsAt, Flash, putBlock, Sound}
@@ -20,16 +21,6 @@ use Rattle.transfer.proofs.Stores.{sets-swap, getD-sets-other, take-set
 -- a put into a state
 abbrev pub put : ℕ → List ℕ → Flash → Flash
 put n d f = putBlock (f .image) (f .bytes) n d
-
--- both answers of a test
-pub split : {X : Type 0} (t : Bool) → (t ≡ true → X) → (t ≡ false → X) → X
-split true f g = f refl
-split false f g = g refl
-
-pub both : (t u : Bool) → (t && u) ≡ true → (t ≡ true) × (u ≡ true)
-both true true e = (refl, refl)
-both true false e = absurd (true≢false (sym e))
-both false u e = absurd (true≢false (sym e))
 
 -- what fitting says
 pub fits-told : (i : Image) (n len : ℕ) → fitsAt i n len ≡ true
