@@ -47,7 +47,7 @@ pub fn mark(learnt: Learnt, readable: bool) -> Learnt
     ensures { λ r. ⌜ r ≡ marked learnt readable ⌝ }
 {
     let mut next = learnt;
-    next.readable = post::both(learnt.readable, readable);
+    next.readable = buffer::both(learnt.readable, readable);
     next
 }
 
@@ -57,7 +57,7 @@ fn note_redirect(device: Device, learnt: Learnt, v: &[u8]) -> Learnt
 {
     let old = learnt.registration;
     let registration = registration::redirect(device, old, v);
-    let redirected = post::either(learnt.redirected, registration::is_followed(v));
+    let redirected = buffer::either(learnt.redirected, registration::is_followed(v));
     let mut next = mark(learnt, csmp::read_redirect(v).readable);
     next.registration = registration;
     next.redirected = redirected;
@@ -175,7 +175,7 @@ fn note_group(learnt: Learnt, v: &[u8]) -> Learnt
 fn note_validity(learnt: Learnt, v: &[u8], time: Point) -> Learnt
     ensures { λ r. ⌜ r ≡ validityNoted learnt (now (v .entry)) time ⌝ }
 {
-    let expired = post::either(learnt.expired, post::is_expired(76, v, time));
+    let expired = buffer::either(learnt.expired, post::is_expired(76, v, time));
     let mut next = mark(learnt, csmp::read_validity(v).readable);
     next.expired = expired;
     next

@@ -3,6 +3,7 @@
 // An output position may run past the end: what does not fit whole is not written, and the position
 // then is the length plus one and stays there. One test at the end tells whether everything was written.
 ghost use mathlib.Core.Path.{_≡_};
+ghost use mathlib.Core.Bool.{_&&_, _||_};
 ghost use lib.ListN.{length, take};
 ghost use lib.Seq.{sets};
 ghost use Rattle.buffer.specs.Put.{Put};
@@ -93,4 +94,18 @@ pub fn same(a: &[u8], b: &[u8]) -> bool
         i += 1;
     }
     true
+}
+
+// Both of two tests, worked out before one is chosen by them.
+pub fn both(a: bool, b: bool) -> bool
+    ensures { λ r. ⌜ r ≡ (a && b) ⌝ }
+{
+    if a { b } else { false }
+}
+
+// Either of two tests.
+pub fn either(a: bool, b: bool) -> bool
+    ensures { λ r. ⌜ r ≡ (a || b) ⌝ }
+{
+    if a { true } else { b }
 }

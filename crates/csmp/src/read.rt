@@ -41,12 +41,6 @@ fn transfer_readable(v: &[u8]) -> bool
     protobuf::readable(v, &TRANSFER)
 }
 
-fn both(a: bool, b: bool) -> bool
-    ensures { λ r. ⌜ r ≡ (a && b) ⌝ }
-{
-    if a { b } else { false }
-}
-
 fn moment(n: Number) -> Moment
     ensures { λ r. ⌜ r ≡ momentOf n ⌝ }
 {
@@ -83,7 +77,7 @@ pub fn read_redirect(v: &[u8]) -> Redirect
 {
     let url = protobuf::last_bytes(v, 1);
     let immediate = protobuf::last_flag(v, 2);
-    let readable = both(plain_readable(v), at_most(url, 128));
+    let readable = buffer::both(plain_readable(v), at_most(url, 128));
     Redirect {
         readable,
         url,
@@ -95,7 +89,7 @@ pub fn read_session(v: &[u8]) -> Session
     ensures { λ r. ⌜ r ≡ sessionOf (now (v .entry)) ⌝ }
 {
     let id = protobuf::last_bytes(v, 1);
-    let readable = both(plain_readable(v), at_most(id, 64));
+    let readable = buffer::both(plain_readable(v), at_most(id, 64));
     Session { readable, id }
 }
 
@@ -151,8 +145,8 @@ fn few_entries(v: &[u8], number: u32) -> bool
 pub fn read_report(v: &[u8]) -> Report
     ensures { λ r. ⌜ r ≡ reportOf (now (v .entry)) ⌝ }
 {
-    let few = both(few_entries(v, 2), few_entries(v, 4));
-    let readable = both(plain_readable(v), few);
+    let few = buffer::both(few_entries(v, 2), few_entries(v, 4));
+    let readable = buffer::both(plain_readable(v), few);
     let every = interval(protobuf::last_number(v, 1));
     let beat = interval(protobuf::last_number(v, 3));
     let ids = read_ids(v, 2);

@@ -19,30 +19,21 @@ pub fn is_open(images: Images, hash: [u8; 32]) -> bool
     ensures { λ r. ⌜ r ≡ isOpen images hash ⌝ }
 {
     let ours = images.image.hash;
-    if images.open {
-        return place::same_hash(ours, hash);
-    }
-    false
+    place::is_given(images.open, ours, hash)
 }
 
 fn is_backup(images: Images, hash: [u8; 32]) -> bool
     ensures { λ r. ⌜ r ≡ isBackup images hash ⌝ }
 {
     let ours = images.backup.bytes;
-    if images.backup.given {
-        return place::same_hash(ours, hash);
-    }
-    false
+    place::is_given(images.backup.given, ours, hash)
 }
 
 fn is_pending(images: Images, hash: [u8; 32]) -> bool
     ensures { λ r. ⌜ r ≡ isPending images hash ⌝ }
 {
     let ours = images.pending.hash;
-    if images.pending.is {
-        return place::same_hash(ours, hash);
-    }
-    false
+    place::is_given(images.pending.is, ours, hash)
 }
 
 // 3 where the hash is not the open one, 2 where the open image is incomplete, else 0.

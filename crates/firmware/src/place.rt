@@ -4,6 +4,7 @@ use csmp::Name;
 use csmp::Version;
 use protobuf::Bytes;
 ghost use mathlib.Core.Path.{_≡_};
+ghost use mathlib.Core.Bool.{_&&_};
 ghost use Rattle.transfer.specs.Block.{Inside};
 ghost use Rattle.firmware.specs.Place.{isHash, hashAt, echoed, nameAt, versionAt, isText};
 ghost use Rattle.buffer.specs.Same.{sameBytes};
@@ -99,4 +100,14 @@ pub(crate) fn same_hash(a: [u8; 32], b: [u8; 32]) -> bool
     ensures { λ r. ⌜ r ≡ sameBytes a b ⌝ }
 {
     buffer::same(&a, &b)
+}
+
+// Whether a hash is one that is kept, if one is.
+pub(crate) fn is_given(kept: bool, ours: [u8; 32], hash: [u8; 32]) -> bool
+    ensures { λ r. ⌜ r ≡ (kept && sameBytes ours hash) ⌝ }
+{
+    if !kept {
+        return false;
+    }
+    same_hash(ours, hash)
 }

@@ -80,8 +80,8 @@ pub fn put_header(out: &mut [u8], at: usize) -> usize
 pub fn put_refusal(out: &mut [u8], outcome: u32) -> usize
     ensures { λ r. ⌜ Appended (now (out .entry)) 0 (refusalLine outcome) (now (out .exit)) r ⌝ }
 {
-    let a = buffer::put(out, 0, b"- ");
-    let b = put_field(out, a, outcome);
-    let c = put_field(out, b, 0);
-    buffer::put(out, c, b"-\n")
+    let start = buffer::put(out, 0, b"- ");
+    let mid = put_field(out, start, outcome);
+    let last = put_field(out, mid, 0);
+    buffer::put(out, last, b"-\n")
 }

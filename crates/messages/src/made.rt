@@ -17,9 +17,9 @@ fn made(out: &[u8], n: usize) {
     if n <= out.len() {
         show::hex(&out[..n]);
     } else {
-        show::word(b"full");
+        lines::word(b"full");
     }
-    show::word(b"\n");
+    lines::word(b"\n");
 }
 
 fn time() {

@@ -21,26 +21,26 @@ fn show_record(kind: u64, v: &[u8]) {
         69 | 70 => show::hash(v),
         76 => show::validity(v),
         77 => show::signature(v),
-        _ => show::word(b"unknown"),
+        _ => lines::word(b"unknown"),
     }
 }
 
 fn show_part(s: &[u8], kind: u64, start: usize, end: usize) {
-    show::number(kind);
-    show::word(b" ");
+    lines::number(kind);
+    lines::word(b" ");
     if start <= end {
         if end <= s.len() {
             show_record(kind, &s[start..end]);
         }
     }
-    show::word(b"\n");
+    lines::word(b"\n");
 }
 
 fn show_records(s: &[u8]) {
     let mut cursor = Cursor { at: 0 };
     while cursor.at < s.len() {
         let Taken::Record(r) = tlv::take_record(s, cursor.at) else {
-            show::word(b"unreadable\n");
+            lines::word(b"unreadable\n");
             return;
         };
         show_part(s, r.kind, r.start, r.end);

@@ -1,24 +1,15 @@
 // One line for what a reader says, and one for what a writer makes.
 use decimal::Ids;
-use libc::STDOUT_FILENO;
 use protobuf::Bytes;
 use protobuf::Flag;
 use protobuf::Number;
 use schedule::Interval;
 use schedule::Moment;
 
-pub fn word(s: &[u8]) {
-    io::write_all(STDOUT_FILENO, s);
-}
-
-pub fn number(n: u64) {
-    io::print_decimal(STDOUT_FILENO, n);
-}
-
 // Bytes in hex; absent ones have a dash, so none are called empty.
 pub fn hex(s: &[u8]) {
     if s.len() == 0 {
-        word(b"empty");
+        lines::word(b"empty");
         return;
     }
     lines::hex(s);
@@ -26,16 +17,16 @@ pub fn hex(s: &[u8]) {
 
 fn readable(b: bool) {
     if b {
-        word(b"readable");
+        lines::word(b"readable");
     } else {
-        word(b"unreadable");
+        lines::word(b"unreadable");
     }
 }
 
 fn bytes(v: &[u8], place: Bytes) {
-    word(b" ");
+    lines::word(b" ");
     let Bytes::At(start, end) = place else {
-        word(b"-");
+        lines::word(b"-");
         return;
     };
     if start <= end {
@@ -46,63 +37,63 @@ fn bytes(v: &[u8], place: Bytes) {
 }
 
 fn given(n: Number) {
-    word(b" ");
+    lines::word(b" ");
     let Number::Given(x) = n else {
-        word(b"-");
+        lines::word(b"-");
         return;
     };
-    number(x as u64);
+    lines::number(x as u64);
 }
 
 fn flag(f: Flag) {
-    word(b" ");
+    lines::word(b" ");
     let Flag::Given(b) = f else {
-        word(b"-");
+        lines::word(b"-");
         return;
     };
     if b {
-        word(b"true");
+        lines::word(b"true");
     } else {
-        word(b"false");
+        lines::word(b"false");
     }
 }
 
 fn moment(m: Moment) {
-    word(b" ");
+    lines::word(b" ");
     let Moment::At(p) = m else {
-        word(b"-");
+        lines::word(b"-");
         return;
     };
-    number(p.0 as u64);
+    lines::number(p.0 as u64);
 }
 
 fn interval(i: Interval) {
-    word(b" ");
+    lines::word(b" ");
     let Interval::Every(l) = i else {
-        word(b"-");
+        lines::word(b"-");
         return;
     };
-    number(l.0 as u64);
+    lines::number(l.0 as u64);
 }
 
 fn id(n: u32) {
-    word(b" ");
-    number(n as u64);
+    lines::word(b" ");
+    lines::number(n as u64);
 }
 
 fn ids(l: Ids) {
-    word(b" [");
+    lines::word(b" [");
     let list = l.list;
     let mut i = 0;
     while i < 32 {
         if l.count <= i {
-            word(b"]");
+            lines::word(b"]");
             return;
         }
         id(list[i]);
         i += 1;
     }
-    word(b"]");
+    lines::word(b"]");
 }
 
 pub fn redirect(v: &[u8]) {

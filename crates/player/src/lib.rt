@@ -2,9 +2,9 @@
 //
 // A record of type 0 is a datagram behind its time (four bytes) and the host's verdict (one). The others prepare the
 // device: 1 sets it up anew, with the values that document 01 gives the listing program; 2 is the host's store from
-// then on; 3 has the groups held, four bytes of type and four of id each, at most 8; 4 the report held, as record 13
-// has it. A line has the record's number, then outcome, length and reply, or what was set and how long its value is.
-mod assign;
+// then on; 3 is what an acknowledgement assigns, by its payload; 4 the same of a device that is set up anew. A line has
+// the record's number, then outcome, length and reply, or what was set and how long its value is.
+mod register;
 mod show;
 
 use libc::STDIN_FILENO;
@@ -22,12 +22,17 @@ fn renew(image: &mut [u8; 4096]) -> State {
     made.state
 }
 
+// A number, high byte first.
+fn joined(a: u8, b: u8, c: u8, d: u8) -> u32 {
+    ((a as u32 * 256 + b as u32) * 256 + c as u32) * 256 + d as u32
+}
+
 // A datagram behind its time and its verdict.
 fn receive(state: State, image: &mut [u8; 4096], store: &[u8], v: &[u8]) -> State {
     if v.len() < 5 {
         return state;
     }
-    let time = Point(assign::number(v));
+    let time = Point(joined(v[0], v[1], v[2], v[3]));
     let mut out = [0u8; 1280];
     let answer = agent::datagram(state, image, &mut out, &v[5..], store, time, v[4]);
     show::answer(answer, &out);
@@ -40,14 +45,9 @@ fn hold(state: State, v: &[u8]) -> State {
     state
 }
 
-fn hold_groups(state: State, v: &[u8]) -> State {
-    show::given(b" groups", v.len());
-    assign::with_groups(state, v)
-}
-
-fn hold_report(state: State, v: &[u8]) -> State {
-    show::given(b" report", v.len());
-    assign::with_report(state, v)
+fn assign(state: State, image: &mut [u8; 4096], v: &[u8]) -> State {
+    show::given(b" assign", v.len());
+    register::assign(state, image, v)
 }
 
 fn act(state: State, image: &mut [u8; 4096], store: &[u8], kind: u64, v: &[u8]) -> State {
@@ -55,8 +55,8 @@ fn act(state: State, image: &mut [u8; 4096], store: &[u8], kind: u64, v: &[u8]) 
         0 => receive(state, image, store, v),
         1 => renew(image),
         2 => hold(state, v),
-        3 => hold_groups(state, v),
-        4 => hold_report(state, v),
+        3 => assign(state, image, v),
+        4 => assign(lister::device().state, image, v),
         _ => state,
     }
 }

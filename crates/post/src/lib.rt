@@ -5,8 +5,6 @@ use schedule::Point;
 use state::Groups;
 use tlv::Cursor;
 use tlv::Taken;
-pub use value::both;
-pub use value::either;
 pub use value::is_expired;
 ghost use mathlib.Core.Path.{_≡_};
 ghost use Prim.Native.Nat.{_≤_};
@@ -36,12 +34,12 @@ fn note(seen: Seen, kind: u64, v: &[u8], groups: Groups, time: Point) -> Seen
     requires { ⌜ seen .records ≤ 1280 ⌝ }
     ensures { λ r. ⌜ r ≡ noted groups time seen kind (now (v .entry)) ⌝ }
 {
-    let readable = value::both(seen.readable, value::is_readable(kind, v));
-    let signed = value::either(seen.signed, kind == 77);
-    let expired = value::either(seen.expired, value::is_expired(kind, v, time));
-    let grouped = value::either(seen.grouped, kind == 57);
-    let matched = value::either(seen.matched, value::is_match(kind, v, groups));
-    let forbidden = value::either(seen.forbidden, value::is_forbidden(kind));
+    let readable = buffer::both(seen.readable, value::is_readable(kind, v));
+    let signed = buffer::either(seen.signed, kind == 77);
+    let expired = buffer::either(seen.expired, value::is_expired(kind, v, time));
+    let grouped = buffer::either(seen.grouped, kind == 57);
+    let matched = buffer::either(seen.matched, value::is_match(kind, v, groups));
+    let forbidden = buffer::either(seen.forbidden, value::is_forbidden(kind));
     Seen {
         records: seen.records + 1,
         readable,
@@ -58,7 +56,7 @@ fn seal(seen: Seen, whole: bool) -> Seen
     ensures { λ r. ⌜ r ≡ sealed whole seen ⌝ }
 {
     let mut last = seen;
-    last.readable = value::both(whole, seen.readable);
+    last.readable = buffer::both(whole, seen.readable);
     last
 }
 

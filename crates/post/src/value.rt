@@ -4,20 +4,8 @@ use schedule::Moment;
 use schedule::Point;
 use state::Groups;
 ghost use mathlib.Core.Path.{_≡_};
-ghost use mathlib.Core.Bool.{_&&_, _||_, not};
+ghost use mathlib.Core.Bool.{_&&_, not};
 ghost use Rattle.post.specs.Value.{isReadable, isEarly, isLate, isExpired, hasPair, isMatch, isForbidden};
-
-pub fn both(a: bool, b: bool) -> bool
-    ensures { λ r. ⌜ r ≡ (a && b) ⌝ }
-{
-    if a { b } else { false }
-}
-
-pub fn either(a: bool, b: bool) -> bool
-    ensures { λ r. ⌜ r ≡ (a || b) ⌝ }
-{
-    if a { true } else { b }
-}
 
 // There are GroupMatches, and none names a held group.
 pub fn unmatched(grouped: bool, matched: bool) -> bool
@@ -72,7 +60,7 @@ pub fn is_expired(kind: u64, v: &[u8], time: Point) -> bool
     let m = csmp::read_validity(v);
     let from = m.not_before;
     let to = m.not_after;
-    either(is_early(from, time), is_late(to, time))
+    buffer::either(is_early(from, time), is_late(to, time))
 }
 
 // Whether a pair is among the groups held.

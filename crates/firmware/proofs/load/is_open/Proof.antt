@@ -1,19 +1,15 @@
--- `firmware::load::is_open` meets its contract: without the flag there is no such hash.
+-- `load::is_open` meets its contract: the hash, if one is kept.
 use Rattle.firmware.specs.Load.{isOpen}
 use borrow.Author.Needs.{needs}
 use Rattle.firmware.proofs.load.is_open.Statement.{statement}
 use Rattle.firmware.proofs.load.is_open.Tie as tie
 
-same-hash-requires : tie.Need-same-hash-requires
-same-hash-requires c κs = search needs
+is-given-requires : tie.Need-is-given-requires
+is-given-requires c κs = search needs
 
 returns : tie.Need-returns
 unfolding isOpen
-returns c = rw (c .before .if1 .taken) (c .same-hash .ensures)
-
-returns-2 : tie.Need-returns-2
-unfolding isOpen
-returns-2 c = rw (c .if1 .left)
+returns c = c .is-given .ensures
 
 pub is-open-spec : {M : Type 1} → statement M
-is-open-spec = tie.close (tie.spec same-hash-requires returns returns-2)
+is-open-spec = tie.close (tie.spec is-given-requires returns)
