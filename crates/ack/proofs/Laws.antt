@@ -1,26 +1,22 @@
 -- Laws of an acknowledgement: what each test of the code says of the definitions.
 use Prim.Native.Nat.{ℕ, _+_, _-_, _≤_, _<_}
-use mathlib.Core.Path.{_≡_, refl}
-use mathlib.Core.List.{List, [], _∷_, map}
-use mathlib.Core.Bool.{Bool, true, false, not, _&&_, _||_}
-use mathlib.Core.Option.{some}
-use borrow.Author.Tests.{le-leb, lt-leb, eq-eqb, ne-eqb}
+use mathlib.Core.Path.{_≡_}
+use mathlib.Core.List.{List, map}
+use mathlib.Core.Bool.{Bool, true, false, not}
+use borrow.Author.Tests.{le-leb, lt-leb, ne-eqb}
 use lib.Dec.{eqb}
 use lib.ListN.{length, take, drop, set}
-use Rattle.csmp.specs.Read.{plain, redirectOf, sessionOf, reportOf, groupOf, validityOf}
-use Rattle.csmp.specs.declared.Group.{Group}
-use Rattle.csmp.specs.declared.Redirect.{Redirect}
-use Rattle.csmp.specs.declared.Report.{Report}
-use Rattle.csmp.specs.declared.Session.{Session}
+use Rattle.decode.specs.Read.{sessionOf, reportOf, groupOf}
+use Rattle.decode.specs.declared.Group.{Group}
+use Rattle.decode.specs.declared.Report.{Report}
+use Rattle.decode.specs.declared.Session.{Session}
 use Rattle.csmp.specs.declared.SessionId.{SessionId}
-use Rattle.csmp.specs.declared.Validity.{Validity}
 use Rattle.post.specs.Judge.{badlySigned}
-use Rattle.post.specs.Value.{isExpired}
 use Rattle.protobuf.specs.Find.{bytesIn}
 use Rattle.protobuf.specs.declared.Bytes.the-variants.{At, Absent as NoBytes}
 use Rattle.protobuf.specs.declared.Number.the-variants.{Given, Absent}
 use Rattle.protobuf.proofs.FindLaws.{bytes-within}
-use Rattle.registration.specs.Redirect.{followed, urlIn, redirected}
+use Rattle.registration.specs.Redirect.{redirected}
 use Rattle.schedule.specs.declared.Point.{Point}
 use Rattle.state.specs.declared.Assigned.{Assigned}
 use Rattle.state.specs.declared.Device.{Device}
@@ -31,7 +27,7 @@ use Rattle.tlv.specs.declared.Record.{Record}
 use Rattle.tlv.specs.declared.Taken.the-variants.{Record as Whole, Unreadable}
 use Rattle.tlv.proofs.Laws.{records-end, records-more, records-unreadable}
 use Rattle.buffer.specs.Pick.{pick}
-use Rattle.ack.specs.Learn.{nothingLearnt, marked, withAssigned, redirectNoted, sessionIdOf, inSession, withSession, sessionNoted, withReport, reportNoted, pushed, withGroup, groupNoted, validityNoted, signatureNoted, noted, learntOf, learntFrom}
+use Rattle.ack.specs.Learn.{nothingLearnt, marked, withAssigned, redirectNoted, sessionIdOf, withSession, sessionNoted, withReport, reportNoted, pushed, withGroup, groupNoted, validityNoted, signatureNoted, noted, learntOf, learntFrom}
 use Rattle.ack.specs.Take.{isAwaited, isTakable, withGroups, regrouped, acceptedBy, takenBy, acknowledged}
 use Rattle.ack.specs.declared.note.Learnt.{Learnt}
 

@@ -7,8 +7,8 @@ use lib.Dec.{eqb, leb}
 use lib.ListN.{length, replicate, set}
 use lib.Seq.{sets}
 use Rattle.buffer.specs.Pick.{pick}
-use Rattle.csmp.specs.Read.{plain, redirectOf, sessionOf, reportOf, groupOf, validityOf}
-use Rattle.csmp.specs.declared.Group.{Group}
+use Rattle.decode.specs.Read.{plain, redirectOf, sessionOf, reportOf, groupOf, validityOf}
+use Rattle.decode.specs.declared.Group.{Group}
 use Rattle.csmp.specs.declared.SessionId.{SessionId}
 use Rattle.post.specs.Value.{isExpired}
 use Rattle.protobuf.specs.Statements.{bytesGiven}
@@ -16,9 +16,9 @@ use Rattle.protobuf.specs.declared.Number.{Number}
 use Rattle.protobuf.specs.declared.Number.the-variants.{Given, Absent}
 use Rattle.registration.specs.Redirect.{followed, urlIn, redirected}
 use Rattle.schedule.specs.declared.Point.{Point}
+use Rattle.state.specs.Setup.{noGroups}
 use Rattle.state.specs.declared.Assigned.{Assigned}
 use Rattle.state.specs.declared.Device.{Device}
-use Rattle.state.specs.declared.Groups.{Groups}
 use Rattle.state.specs.declared.Registration.{Registration}
 use Rattle.tlv.specs.Record.{Tlv, records, readable}
 use Rattle.ack.specs.declared.note.Learnt.{Learnt}
@@ -33,7 +33,7 @@ nothingLearnt r a =
       redirected = false;
       registration = r;
       assigned = a;
-      groups = record { list = replicate 8 (record { kind = 0; id = 0 }); count = 0 };
+      groups = noGroups;
     }
 
 -- readable: its 6, 7, 13, 55, 76, 77 too

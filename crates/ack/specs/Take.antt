@@ -1,7 +1,7 @@
 -- When an acknowledgement is taken, and what it then does, document 01, "Registration and reports".
 use Prim.Native.Nat.{ℕ}
 use mathlib.Core.List.{List}
-use mathlib.Core.Bool.{Bool, true, false, not, _&&_}
+use mathlib.Core.Bool.{Bool, true, not, _&&_}
 use lib.Dec.{eqb}
 use Rattle.buffer.specs.Pick.{pick}
 use Rattle.post.specs.Judge.{badlySigned}

@@ -7,7 +7,6 @@ use state::Assigned;
 use state::Device;
 use state::Registration;
 use state::State;
-use tlv::Cursor;
 use tlv::Taken;
 ghost use mathlib.Core.Path.{_≡_};
 ghost use Rattle.ack.specs.Learn.{learntFrom};
@@ -24,15 +23,15 @@ fn learn(
     ensures { λ r. ⌜ r ≡ learntFrom device registration assigned time (now (payload .entry)) ⌝ }
 {
     let mut learnt = note::nothing(registration, assigned);
-    let mut cursor = Cursor { at: 0 };
-    while cursor.at < payload.len() {
-        let Taken::Record(r) = tlv::take_record(payload, cursor.at) else {
+    let mut at = 0;
+    while at < payload.len() {
+        let Taken::Record(r) = tlv::take_record(payload, at) else {
             return note::mark(learnt, false);
         };
         let start = r.start;
         let end = r.end;
         learnt = note::note(device, learnt, r.kind, &payload[start..end], time);
-        cursor = Cursor { at: end };
+        at = end;
     }
     learnt
 }

@@ -1,6 +1,6 @@
 // One record of an acknowledgement.
-use csmp::Group;
 use csmp::SessionId;
+use decode::Group;
 use protobuf::Bytes;
 use protobuf::Number;
 use schedule::Point;
@@ -35,10 +35,7 @@ pub fn nothing(registration: Registration, assigned: Assigned) -> Learnt
         redirected: false,
         registration,
         assigned,
-        groups: Groups {
-            list: [Pair { kind: 0, id: 0 }; 8],
-            count: 0,
-        },
+        groups: state::no_groups(),
     }
 }
 
@@ -58,7 +55,7 @@ fn note_redirect(device: Device, learnt: Learnt, v: &[u8]) -> Learnt
     let old = learnt.registration;
     let registration = registration::redirect(device, old, v);
     let redirected = buffer::either(learnt.redirected, registration::is_followed(v));
-    let mut next = mark(learnt, csmp::read_redirect(v).readable);
+    let mut next = mark(learnt, decode::read_redirect(v).readable);
     next.registration = registration;
     next.redirected = redirected;
     next
@@ -79,7 +76,7 @@ fn session_id_of(s: &[u8]) -> SessionId
 fn with_session(assigned: Assigned, v: &[u8]) -> Assigned
     ensures { λ r. ⌜ r ≡ withSession assigned (now (v .entry)) ⌝ }
 {
-    let m = csmp::read_session(v);
+    let m = decode::read_session(v);
     let place = m.id;
     let Bytes::At(start, end) = place else {
         return assigned;
@@ -96,7 +93,7 @@ fn note_session(learnt: Learnt, v: &[u8]) -> Learnt
 {
     let old = learnt.assigned;
     let assigned = with_session(old, v);
-    let mut next = mark(learnt, csmp::read_session(v).readable);
+    let mut next = mark(learnt, decode::read_session(v).readable);
     next.assigned = assigned;
     next
 }
@@ -105,7 +102,7 @@ fn note_session(learnt: Learnt, v: &[u8]) -> Learnt
 fn with_report(assigned: Assigned, v: &[u8]) -> Assigned
     ensures { λ r. ⌜ r ≡ withReport assigned (now (v .entry)) ⌝ }
 {
-    let m = csmp::read_report(v);
+    let m = decode::read_report(v);
     let groups = assigned.groups;
     let session = assigned.session;
     let interval = m.interval;
@@ -129,7 +126,7 @@ fn note_report(learnt: Learnt, v: &[u8]) -> Learnt
 {
     let old = learnt.assigned;
     let assigned = with_report(old, v);
-    let mut next = mark(learnt, csmp::read_report(v).readable);
+    let mut next = mark(learnt, decode::read_report(v).readable);
     next.assigned = assigned;
     next
 }
@@ -168,7 +165,7 @@ fn with_group(learnt: Learnt, m: Group) -> Learnt
 fn note_group(learnt: Learnt, v: &[u8]) -> Learnt
     ensures { λ r. ⌜ r ≡ groupNoted learnt (now (v .entry)) ⌝ }
 {
-    let m = csmp::read_group(v);
+    let m = decode::read_group(v);
     mark(with_group(learnt, m), m.readable)
 }
 
@@ -176,7 +173,7 @@ fn note_validity(learnt: Learnt, v: &[u8], time: Point) -> Learnt
     ensures { λ r. ⌜ r ≡ validityNoted learnt (now (v .entry)) time ⌝ }
 {
     let expired = buffer::either(learnt.expired, post::is_expired(76, v, time));
-    let mut next = mark(learnt, csmp::read_validity(v).readable);
+    let mut next = mark(learnt, decode::read_validity(v).readable);
     next.expired = expired;
     next
 }
@@ -184,7 +181,7 @@ fn note_validity(learnt: Learnt, v: &[u8], time: Point) -> Learnt
 fn note_signature(learnt: Learnt, v: &[u8]) -> Learnt
     ensures { λ r. ⌜ r ≡ signatureNoted learnt (now (v .entry)) ⌝ }
 {
-    let mut next = mark(learnt, csmp::read_signature(v));
+    let mut next = mark(learnt, decode::read_signature(v));
     next.signed = true;
     next
 }

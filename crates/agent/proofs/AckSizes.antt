@@ -1,6 +1,6 @@
 -- An acknowledgement that is taken keeps the sizes; redirects, which posts bring too.
 use Prim.Native.Nat.{ℕ, _-_, _≤_}
-use mathlib.Core.Path.{_≡_, refl}
+use mathlib.Core.Path.{_≡_}
 use mathlib.Core.List.{List, [], _∷_}
 use mathlib.Core.Bool.{Bool, true, false, not, _&&_}
 use mathlib.Core.Option.{Option, none, some}
@@ -12,8 +12,7 @@ use Rattle.ack.specs.Learn.{nothingLearnt, marked, redirectNoted, sessionIdOf, 
 use Rattle.ack.specs.Take.{isAwaited, isTakable, regrouped, acceptedBy, takenBy, acknowledged}
 use Rattle.ack.specs.declared.note.Learnt.{Learnt}
 use Rattle.buffer.proofs.Tests.{pick-both, both}
-use Rattle.buffer.specs.Pick.{pick}
-use Rattle.csmp.specs.Read.{atMost, plain, redirectOf, sessionOf, withId, withEntry, withField, withFields, listedIn, reportOf, groupOf, validityOf}
+use Rattle.decode.specs.Read.{atMost, plain, redirectOf, sessionOf, withId, withEntry, withField, withFields, listedIn, reportOf, groupOf, validityOf}
 use Rattle.decimal.specs.Decimal.{idOf}
 use Rattle.decimal.specs.Ids.{noIds, pushed as listed}
 use Rattle.decimal.specs.declared.Id.{Id}

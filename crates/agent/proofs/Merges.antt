@@ -1,11 +1,11 @@
 -- Demand 3: a feed only puts blocks, so a merge of feeds is a merge of their blocks.
 use Prim.Native.Nat.{ℕ}
-use mathlib.Core.Path.{_≡_, refl, sym, ap, _∙_}
+use mathlib.Core.Path.{_≡_, refl, sym, _∙_}
 use mathlib.Core.List.{List, [], _∷_, _++_}
 use mathlib.Core.Bool.{Bool, true, false, not, _&&_, _||_}
 use mathlib.Core.Option.{Option, none, some}
 use native.Mathlib.Omega.{arith}
-use borrow.Author.Tests.{eqb-true, eqb-false, not-true, ne-eqb}
+use borrow.Author.Tests.{eqb-true, eqb-false, ne-eqb}
 use lib.Dec.{eqb, ltb}
 use lib.ListN.{length, drop}
 use Rattle.buffer.proofs.Tests.{split, both, neither}
@@ -15,11 +15,9 @@ use Rattle.coap.specs.declared.Datagram.{Datagram}
 use Rattle.coap.specs.declared.Datagram.the-variants.{Frame as Whole, Malformed, Foreign}
 use Rattle.coap.specs.declared.Frame.{Frame}
 use Rattle.csmp.specs.declared.Image.{Image}
-use Rattle.csmp.specs.Read.{redirectOf}
+use Rattle.decode.specs.Read.{redirectOf}
 use Rattle.post.specs.declared.Judgement.{Judgement}
 use Rattle.post.specs.declared.Judgement.the-variants.{Error as Erring, Run}
-use Rattle.protobuf.specs.Statements.{Each}
-use Rattle.protobuf.specs.declared.Flag.{Flag}
 use Rattle.registration.specs.Redirect.{isSet, followed, follow, urlIn, redirected}
 use Rattle.decimal.specs.Ids.{held}
 use Rattle.request.specs.Request.{requestOf}
@@ -30,8 +28,8 @@ use Rattle.run.specs.Run.{World, withFlash, blockTaken, act, ran}
 use Rattle.state.specs.declared.Device.{Device}
 use Rattle.state.specs.declared.Registration.{Registration}
 use Rattle.tlv.specs.Record.{Tlv}
-use Rattle.transfer.specs.Block.{Flash, Offer, Sound, isHash, offered, putBlock, takeBlock}
-use Rattle.transfer.specs.Merge.{Merge, none as nothing, first, second, putAll, Agreeing, Ended}
+use Rattle.transfer.specs.Block.{Flash, Offer, offered, putBlock, takeBlock}
+use Rattle.transfer.specs.Merge.{Merge, none as nothing, first, second, putAll, Ended}
 use Rattle.transfer.proofs.Puts.{put-hash, put-length}
 use Rattle.transfer.proofs.Merges.{merges}
 use Rattle.transfer.proofs.Ends.{ends, ends-none}
@@ -39,7 +37,7 @@ use Rattle.agent.specs.Class.{isRequest, classOf}
 use Rattle.agent.specs.Datagram.{Call, Effect, Served, refusalOf, refusal, worldIn, withWorld, servedPost, servedAs, served, replied, classed, received, datagramOf}
 use Rattle.agent.specs.Made.{Sized}
 use Rattle.agent.proofs.Sizes.{made-sized}
-use Rattle.agent.specs.Merge.{Kept, after, afterAll, runsJudged, runsAsked, runsClassed, runsFramed, runs, steers, anySteers, framesPost, feeds, Feed, withOffer, offers, brought, flashOf, keptWith, Merged, Demand3}
+use Rattle.agent.specs.Merge.{Kept, after, afterAll, runsJudged, runsAsked, runsClassed, runsFramed, runs, steers, anySteers, framesPost, feeds, Feed, withOffer, offers, brought, flashOf, keptWith, Demand3}
 use Rattle.agent.specs.declared.class.Class.{Class}
 use Rattle.agent.specs.declared.class.Class.the-variants.{Request, Acknowledgement, Rejected, Ignored}
 

@@ -24,7 +24,6 @@ use Rattle.state.specs.declared.Assigned.{Assigned}
 use Rattle.state.specs.declared.Registration.{Registration}
 use Rattle.state.specs.declared.State.{State}
 use Rattle.store.specs.Store.{acceptable}
-use Rattle.agent.specs.Datagram.{Sent}
 use Rattle.agent.specs.Own.{Sending, ownRefusal, unsent, withRegistration, sending, sendingIf, roundOf, waited, backoffIn, restIn, SentAs, Rounded, intervalOf, isPositive, reports, reportOf}
 use Rattle.agent.specs.declared.Answer.{Answer}
 use Rattle.agent.specs.declared.rounds.RoundAnswer.{RoundAnswer}

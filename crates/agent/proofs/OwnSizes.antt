@@ -1,10 +1,10 @@
 -- A call that sends a datagram of the agent's own keeps the state sized.
-use Prim.Native.Nat.{ℕ, _*_, _≤_}
+use Prim.Native.Nat.{ℕ, _*_}
 use mathlib.Core.Path.{_≡_, refl}
 use mathlib.Core.List.{List, [], _∷_}
 use mathlib.Core.Bool.{Bool, true, false, not}
 use native.Mathlib.Omega.{arith}
-use borrow.Author.Tests.{ltb-true, ltb-false}
+use borrow.Author.Tests.{ltb-true}
 use lib.Dec.{eqb, ltb}
 use Rattle.buffer.specs.Pick.{pick}
 use Rattle.outgoing.specs.Sent.{registrationSent, reportSent}
@@ -16,7 +16,7 @@ use Rattle.schedule.specs.declared.Point.{Point}
 use Rattle.state.specs.declared.Device.{Device}
 use Rattle.state.specs.declared.Registration.{Registration}
 use Rattle.state.specs.declared.State.{State}
-use Rattle.agent.specs.Made.{Between, DeviceSized, RegistrationSized, Sized}
+use Rattle.agent.specs.Made.{Between, RegistrationSized, Sized}
 use Rattle.agent.specs.Own.{ownRefusal, unsent, sending, sendingIf, roundOf, reports, reportOf}
 
 -- the interval stays between the smallest and the largest

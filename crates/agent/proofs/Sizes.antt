@@ -7,7 +7,7 @@ use mathlib.Core.Option.{Option, none, some}
 use native.Mathlib.Omega.{arith}
 use borrow.Author.Tests.{ltb-true, ltb-false, leb-true, eqb-true, eqb-false, not-true}
 use lib.Dec.{eqb, ltb, leb}
-use lib.ListN.{length, take, drop, getD, replicate, getD-replicate}
+use lib.ListN.{length, take, drop, getD, replicate, getD-replicate, length-take}
 use lib.Seq.{length-sets}
 use Rattle.buffer.proofs.Tests.{pick-both, both, neither}
 use Rattle.buffer.specs.Same.{sameBytes}
@@ -15,9 +15,9 @@ use Rattle.coap.specs.Frame.{frameOf}
 use Rattle.coap.specs.declared.Datagram.{Datagram}
 use Rattle.coap.specs.declared.Datagram.the-variants.{Frame as Whole, Malformed, Foreign}
 use Rattle.coap.specs.declared.Frame.{Frame}
-use Rattle.csmp.specs.Read.{atMost, redirectOf, transferOf, loadOf, hashOf}
+use Rattle.decode.specs.Read.{atMost, redirectOf, transferOf, loadOf, hashOf}
 use Rattle.csmp.specs.declared.Image.{Image}
-use Rattle.csmp.specs.declared.Transfer.{Transfer}
+use Rattle.decode.specs.declared.Transfer.{Transfer}
 use Rattle.firmware.specs.Load.{withPending, isOpen, isPending, openFault, sourceFault, pendingFault, loads, loadsAt, loadAnswered, cancels, cancelAnswered, backs, backupAnswered, booted}
 use Rattle.firmware.specs.Open.{sizedTexts, isGiven, numberOr0, isWhole, isOurs, faultOf, openedBy, replaced, opens, openIf, transferAnswered}
 use Rattle.firmware.specs.Place.{isHash, hashAt, nameAt, versionAt}
@@ -118,12 +118,12 @@ hash-long v Absent = refl
 
 name-short : (v : List ℕ) (b : Bytes) → atMost 128 b ≡ true → nameAt v b .len ≤ 128
 unfolding nameAt atMost
-name-short v (At start stop) h = leb-true (stop - start) 128 h
+name-short v (At start stop) h = omega (arith, length-take (stop - start) (drop start v), leb-true (stop - start) 128 h)
 name-short v Absent h = omega arith
 
 version-short : (v : List ℕ) (b : Bytes) → atMost 32 b ≡ true → versionAt v b .len ≤ 32
 unfolding versionAt atMost
-version-short v (At start stop) h = leb-true (stop - start) 32 h
+version-short v (At start stop) h = omega (arith, length-take (stop - start) (drop start v), leb-true (stop - start) 32 h)
 version-short v Absent h = omega arith
 
 -- an empty bitmap holds nothing

@@ -1,4 +1,5 @@
 pub mod Tests
+pub mod Parts
 pub mod Puts
 pub mod Sames
 pub mod Stretches

@@ -21,10 +21,6 @@ pub room : {t : Bool} (len at n : ℕ) → t ≡ fits len at n → t ≡ true �
 unfolding fits
 room len at n e h = leb-true (at + n) len (sym e ∙ h)
 
-pub no-room : {t : Bool} (len at n : ℕ) → t ≡ fits len at n → t ≡ false → len < at + n
-unfolding fits
-no-room len at n e h = leb-false (at + n) len (sym e ∙ h)
-
 -- the test by a difference
 pub fits-moved : (len at n : ℕ) → at ≤ len → leb n (len - at) ≡ fits len at n
 fits-moved len at n h = go (leb n (len - at)) refl

@@ -1,10 +1,11 @@
-// Bytes in lent buffers: appending at a position, copying, and where a stretch of bytes ends.
+// Bytes in lent buffers: appending at a position, copying, parts of a slice, and where a stretch of bytes ends.
 //
 // An output position may run past the end: what does not fit whole is not written, and the position
 // then is the length plus one and stays there. One test at the end tells whether everything was written.
 ghost use mathlib.Core.Path.{_≡_};
 ghost use mathlib.Core.Bool.{_&&_, _||_};
-ghost use lib.ListN.{length, take};
+ghost use lib.ListN.{length, take, drop};
+ghost use Prim.Native.Nat.{_-_};
 ghost use lib.Seq.{sets};
 ghost use Rattle.buffer.specs.Put.{Put};
 ghost use Rattle.buffer.specs.Same.{sameBytes};
@@ -52,6 +53,26 @@ pub fn front(s: &[u8], n: usize) -> &[u8]
         return &s[..n];
     }
     s
+}
+
+// What stands behind the first `n` bytes, or nothing.
+pub fn rest(s: &[u8], n: usize) -> &[u8]
+    ensures { λ r. ⌜ now r ≡ drop n (now (s .entry)) ⌝ }
+{
+    if n <= s.len() {
+        return &s[n..];
+    }
+    &s[s.len()..]
+}
+
+// The bytes from `start` up to `end`, as far as there are any.
+pub fn part(s: &[u8], start: usize, end: usize) -> &[u8]
+    ensures { λ r. ⌜ now r ≡ take (end - start) (drop start (now (s .entry))) ⌝ }
+{
+    if end < start {
+        return front(s, 0);
+    }
+    front(rest(s, start), end - start)
 }
 
 // Copies `src` to the front of `dst`, as far as it has room.

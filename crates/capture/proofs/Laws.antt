@@ -5,8 +5,8 @@ use mathlib.Core.List.{List}
 use native.Mathlib.Omega.{arith}
 use native.Mathlib.Nat.{sub-zero}
 use borrow.Author.Tests.{eq-eqb, ne-eqb, le-leb, lt-leb}
-use lib.ListN.{length, take, drop, length-drop, drop-of-length-le, List·getD-eq-default}
-use lib.Seq.{take-all, drop-length, drop-drop}
+use lib.ListN.{length, take, drop, List·getD-eq-default}
+use lib.Seq.{drop-drop}
 use Rattle.buffer.specs.declared.Stretch.{Stretch}
 use Rattle.buffer.specs.declared.Stretch.the-variants.{To, Outside}
 use Rattle.capture.specs.Read.{byteAt, wide16, wide32, entryIn, bytesAt, endFrom, indexIn, trailerOf, distanceIn, countIn, framed, captureIn, outcomeOf}
@@ -15,12 +15,6 @@ use Rattle.capture.specs.declared.Capture.the-variants.{Index, Malformed
 use Rattle.capture.specs.declared.Entry.{Entry}
 
 -- what stands behind the first bytes
-pub rest-within : (s : List ℕ) (n : ℕ) → take (length s - n) (drop n s) ≡ drop n s
-rest-within s n = take-all (length s - n) (drop n s) (simp length-drop (omega arith))
-
-pub rest-past : (s : List ℕ) (n : ℕ) → length s < n → take (length s - length s) (drop (length s) s) ≡ drop n s
-rest-past s n h = rest-within s (length s) ∙ drop-length s ∙ sym (drop-of-length-le s {i = n} (omega arith))
-
 -- numbers
 pub byte-past : (s : List ℕ) (i : ℕ) → length s ≤ i → 0 ≡ byteAt s i
 unfolding byteAt

@@ -19,16 +19,6 @@ pub struct Entry {
     pub len: u16,
 }
 
-// What stands behind the first n bytes.
-fn rest(s: &[u8], n: usize) -> &[u8]
-    ensures { λ r. ⌜ now r ≡ drop n (now (s .entry)) ⌝ }
-{
-    if n <= s.len() {
-        return &s[n..];
-    }
-    &s[s.len()..]
-}
-
 // A byte; one that is not there counts as 0.
 fn byte(s: &[u8], i: usize) -> u8
     ensures { λ r. ⌜ r ≡ byteAt (now (s .entry)) i ⌝ }
@@ -50,15 +40,15 @@ fn pair(s: &[u8]) -> u16
 fn quad(s: &[u8]) -> u32
     ensures { λ r. ⌜ r ≡ wide32 (now (s .entry)) ⌝ }
 {
-    pair(s) as u32 * 65536 + pair(rest(s, 2)) as u32
+    pair(s) as u32 * 65536 + pair(buffer::rest(s, 2)) as u32
 }
 
 // The entry whose row of the index stands at `row`.
 pub fn entry_at(s: &[u8], row: usize) -> Entry
     ensures { λ r. ⌜ r ≡ entryIn (drop row (now (s .entry))) ⌝ }
 {
-    let here = rest(s, row);
-    let len = pair(rest(here, 4));
+    let here = buffer::rest(s, row);
+    let len = pair(buffer::rest(here, 4));
     Entry {
         time: Point(quad(here)),
         verdict: byte(here, 6),
@@ -70,7 +60,7 @@ pub fn entry_at(s: &[u8], row: usize) -> Entry
 pub fn bytes_at(s: &[u8], start: usize, len: u16) -> &[u8]
     ensures { λ r. ⌜ now r ≡ bytesAt (now (s .entry)) start len ⌝ }
 {
-    buffer::front(rest(s, start), len as usize)
+    buffer::front(buffer::rest(s, start), len as usize)
 }
 
 // Where the datagrams of so many rows end, if each row's last byte is 0.
@@ -80,11 +70,11 @@ fn end_of(rows: &[u8], count: u16) -> Stretch
     let mut end = 0;
     let mut i = 0;
     while i < count {
-        let row = rest(rows, i as usize * 8);
+        let row = buffer::rest(rows, i as usize * 8);
         if byte(row, 7) != 0 {
             return Stretch::Outside;
         }
-        end += pair(rest(row, 4)) as usize;
+        end += pair(buffer::rest(row, 4)) as usize;
         i += 1;
     }
     Stretch::To(end)
@@ -111,9 +101,9 @@ pub fn read(s: &[u8]) -> Capture
     if 65536 < n {
         return Capture::Malformed;
     }
-    let trailer = rest(s, n - 6);
+    let trailer = buffer::rest(s, n - 6);
     let distance = quad(trailer) as usize;
-    let count = pair(rest(trailer, 4));
+    let count = pair(buffer::rest(trailer, 4));
     if distance != count as usize * 8 + 6 {
         return Capture::Malformed;
     }
@@ -128,7 +118,7 @@ fn index_of(s: &[u8], index: usize, count: u16) -> Capture
     requires { ⌜ index ≤ 65536 ⌝ }
     ensures { λ r. ⌜ r ≡ indexIn index count (endFrom count (drop index (now (s .entry))) 0) ⌝ }
 {
-    let Stretch::To(end) = end_of(rest(s, index), count) else {
+    let Stretch::To(end) = end_of(buffer::rest(s, index), count) else {
         return Capture::Malformed;
     };
     if end != index {

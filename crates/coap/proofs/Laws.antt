@@ -4,7 +4,7 @@ use mathlib.Core.Path.{_≡_, refl, ap, _∙_}
 use mathlib.Core.List.{List, [], _∷_}
 use mathlib.Core.Bool.{Bool, true, false}
 use native.Mathlib.Omega.{arith}
-use borrow.Author.Tests.{lt-ltb, le-ltb, le-leb, lt-leb, leb-true, leb-false, eq-eqb, ne-eqb}
+use borrow.Author.Tests.{lt-ltb, le-ltb, le-leb, lt-leb, leb-true, leb-false, ne-eqb}
 use lib.Dec.{eqb, ltb, leb}
 use lib.ListN.{length, getD}
 use Rattle.buffer.specs.Pick.{pick}
@@ -12,14 +12,13 @@ use Rattle.buffer.specs.Stretch.{fits, stretch}
 use Rattle.buffer.specs.declared.Stretch.{Stretch}
 use Rattle.buffer.specs.declared.Stretch.the-variants.{To, Outside}
 use Rattle.buffer.proofs.Stretches.{room}
-use Rattle.coap.specs.Option.{extended, ofStretch, ofLength, ofDelta, optionFrom, optionAt, Options, onward, optionsFor, options, firstOf, foundFrom}
+use Rattle.coap.specs.Option.{extended, ofStretch, ofLength, ofDelta, optionFrom, optionAt, Options, onward, optionsFor, options}
 use Rattle.coap.specs.declared.Extended.{Extended}
 use Rattle.coap.specs.declared.Extended.the-variants.{Value, Malformed as Reserved}
 use Rattle.coap.specs.declared.CoapOption.{CoapOption}
 use Rattle.coap.specs.declared.Next.{Next}
 use Rattle.coap.specs.declared.Next.the-variants.{Option, Payload, Malformed}
 use Rattle.coap.specs.declared.Ending.the-variants.{Payload as Begins, Malformed as Broken}
-use Rattle.coap.specs.declared.Found.the-variants.{Option as First, Nothing}
 
 -- a delta or a length, by its nibble
 module _ (s : List ℕ) (nibble at : ℕ) where
@@ -247,21 +246,3 @@ module _ (s : List ℕ) (at before : ℕ) where
   pub options-malformed : optionAt s at before ≡ Malformed → options s at before ≡ record { items = []; ending = Broken }
   unfolding options optionsFor
   options-malformed e = rw e
-
-  -- the first of a number
-  pub found-here : (n : ℕ) (o : CoapOption) → optionAt s at before ≡ Option o → o .number ≡ n → foundFrom s at before n ≡ First o
-  unfolding foundFrom firstOf
-  found-here n o e h = rw (options-option o e, eq-eqb (o .number) n h)
-
-  pub found-next : (n : ℕ) (o : CoapOption) → optionAt s at before ≡ Option o → (o .number ≡ n → ⊥)
-      → foundFrom s at before n ≡ foundFrom s (o .end) (o .number) n
-  unfolding foundFrom firstOf
-  found-next n o e h = rw (options-option o e, ne-eqb (o .number) n h)
-
-  pub found-payload : (n p : ℕ) → optionAt s at before ≡ Payload p → foundFrom s at before n ≡ Nothing
-  unfolding foundFrom firstOf
-  found-payload n p e = rw (options-payload p e)
-
-  pub found-malformed : (n : ℕ) → optionAt s at before ≡ Malformed → foundFrom s at before n ≡ Nothing
-  unfolding foundFrom firstOf
-  found-malformed n e = rw (options-malformed e)

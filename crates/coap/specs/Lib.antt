@@ -1,5 +1,4 @@
 pub mod Option
 pub mod Frame
-pub mod Request
 pub mod Write
 pub mod Statements

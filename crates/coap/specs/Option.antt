@@ -14,8 +14,6 @@ use Rattle.coap.specs.declared.Next.{Next}
 use Rattle.coap.specs.declared.Next.the-variants.{Option, Payload, Malformed}
 use Rattle.coap.specs.declared.Ending.{Ending}
 use Rattle.coap.specs.declared.Ending.the-variants.{Payload as Begins, Malformed as Broken}
-use Rattle.coap.specs.declared.Found.{Found}
-use Rattle.coap.specs.declared.Found.the-variants.{Option as First, Nothing}
 
 -- a delta or a length: 13 is one byte more plus 13, 14 two bytes more plus 269, 15 is reserved
 unfoldable pub extended : List ℕ → ℕ → ℕ → Extended
@@ -71,14 +69,6 @@ options s at before = optionsFor (suc (length s)) s at before
 
 unfoldable pub payloadFrom : List ℕ → ℕ → Ending
 payloadFrom s at = options s at 0 .ending
-
--- the first option of a number
-unfoldable pub firstOf : ℕ → List CoapOption → Found
-firstOf n [] = Nothing
-firstOf n (o ∷ os) = pick (eqb (o .number) n) (First o) (firstOf n os)
-
-unfoldable pub foundFrom : List ℕ → ℕ → ℕ → ℕ → Found
-foundFrom s at before n = firstOf n (options s at before .items)
 
 -- an option's value
 abbrev pub valueOf : List ℕ → CoapOption → List ℕ

@@ -1,23 +1,33 @@
-// The CoAP frame (RFC 7252): reading a datagram's header and options, what a request's options ask, and
-// the heads of what the agent sends. Options and payload stay where they are: positions say where they stand.
-mod options;
+// The CoAP frame (RFC 7252): reading a datagram's header and options, and the heads of what the agent sends.
+// Options and payload stay where they are: positions say where they stand.
 mod write;
 
-pub use options::Path;
-pub use options::Query;
-pub use options::asked_ids;
-pub use options::refused;
-pub use options::request_path;
-pub use options::request_query;
 pub use write::put_registration;
 pub use write::put_reply;
 pub use write::put_report;
 pub use write::put_reset;
 ghost use mathlib.Core.Path.{_≡_};
-ghost use Rattle.coap.specs.Option.{extended, optionAt, optionFrom, payloadFrom, foundFrom};
+ghost use Rattle.coap.specs.Option.{extended, optionAt, optionFrom, payloadFrom};
 ghost use Rattle.coap.specs.Frame.{frameOf, bodyOf, emptyOf};
 ghost use lib.ListN.{length};
 use buffer::Stretch;
+
+// The codes of replies: 2.01, 2.05, and 4.00 to 4.05.
+pub const CREATED: u8 = 65;
+
+pub const CONTENT: u8 = 69;
+
+pub const BAD_REQUEST: u8 = 128;
+
+pub const UNAUTHORIZED: u8 = 129;
+
+pub const BAD_OPTION: u8 = 130;
+
+pub const FORBIDDEN: u8 = 131;
+
+pub const NOT_FOUND: u8 = 132;
+
+pub const NOT_ALLOWED: u8 = 133;
 
 // An option's delta or length, and where the bytes after it begin.
 pub enum Extended {
@@ -43,12 +53,6 @@ pub enum Next {
 pub enum Ending {
     Payload(usize),
     Malformed,
-}
-
-// The option that was looked for.
-pub enum Found {
-    Option(CoapOption),
-    Nothing,
 }
 
 // A well-formed frame. Its options begin at `options`, its payload at `payload`.
@@ -152,31 +156,6 @@ fn payload_from(s: &[u8], from: usize) -> Ending
             }
             Next::Malformed => {
                 return Ending::Malformed;
-            }
-        }
-    }
-}
-
-// The first option of that number from `from` on, behind one of the number `past`.
-pub fn find(s: &[u8], from: usize, past: u64, number: u64) -> Found
-    ensures { λ r. ⌜ r ≡ foundFrom (now (s .entry)) from past number ⌝ }
-{
-    let mut at = from;
-    let mut before = past;
-    loop {
-        match option_at(s, at, before) {
-            Next::Option(o) => {
-                if o.number == number {
-                    return Found::Option(o);
-                }
-                at = o.end;
-                before = o.number;
-            }
-            Next::Payload(_) => {
-                return Found::Nothing;
-            }
-            Next::Malformed => {
-                return Found::Nothing;
             }
         }
     }

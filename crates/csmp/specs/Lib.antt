@@ -1,4 +1,1 @@
 pub mod Tables
-pub mod Read
-pub mod Write
-pub mod Statements

@@ -38,3 +38,12 @@ digitsBefore (suc k) v known = pick (ltb v 10) ((48 + v) ∷ known) (digitsBefor
 -- a number below 2^32 in decimal
 unfoldable pub decimal : ℕ → List ℕ
 decimal v = digitsBefore 9 v []
+
+-- the ids among texts, in order
+unfoldable pub idThen : Id → List ℕ → List ℕ
+idThen (Given i) ids = i ∷ ids
+idThen Nothing ids = ids
+
+unfoldable pub idsAmong : List (List ℕ) → List ℕ
+idsAmong [] = []
+idsAmong (text ∷ texts) = idThen (idOf text) (idsAmong texts)

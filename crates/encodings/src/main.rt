@@ -4,7 +4,6 @@ use libc::STDIN_FILENO;
 use libc::STDOUT_FILENO;
 use protobuf::Field;
 use protobuf::Step;
-use tlv::Cursor;
 use tlv::Taken;
 
 fn print_field(s: &[u8], f: Field) {
@@ -50,14 +49,14 @@ fn print_record(s: &[u8], start: usize, end: usize, kind: u64) {
 }
 
 fn print_records(s: &[u8]) {
-    let mut cursor = Cursor { at: 0 };
-    while cursor.at < s.len() {
-        let Taken::Record(r) = tlv::take_record(s, cursor.at) else {
+    let mut at = 0;
+    while at < s.len() {
+        let Taken::Record(r) = tlv::take_record(s, at) else {
             io::write_all(STDOUT_FILENO, b"unreadable\n");
             return;
         };
         print_record(s, r.start, r.end, r.kind);
-        cursor = Cursor { at: r.end };
+        at = r.end;
     }
 }
 

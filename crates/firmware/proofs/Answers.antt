@@ -1,55 +1,34 @@
 -- Laws of the answers: what each test of the code says of the definitions.
 use Prim.Native.Nat.{ℕ, _-_, _<_}
-use mathlib.Core.Path.{_≡_, refl, sym, ap}
+use mathlib.Core.Path.{_≡_}
 use mathlib.Core.List.{List}
 use mathlib.Core.Bool.{true, false}
 use native.Mathlib.Omega.{arith}
 use borrow.Author.Tests.{eq-eqb, ne-eqb}
 use lib.ListN.{take}
-use Rattle.csmp.specs.Read.{loadOf, hashOf, transferOf}
+use Rattle.decode.specs.Read.{loadOf, hashOf, transferOf}
 use Rattle.csmp.specs.declared.Image.{Image}
-use Rattle.csmp.specs.declared.ImageHash.{ImageHash}
-use Rattle.csmp.specs.declared.Load.{Load}
-use Rattle.csmp.specs.declared.Transfer.{Transfer}
-use Rattle.protobuf.specs.Find.{placeOf, bytesIn, lastInParts, bytesInParts}
+use Rattle.decode.specs.declared.ImageHash.{ImageHash}
+use Rattle.decode.specs.declared.Load.{Load}
+use Rattle.decode.specs.declared.Transfer.{Transfer}
+use Rattle.protobuf.specs.Find.{isText}
 use Rattle.protobuf.specs.declared.Bytes.{Bytes}
-use Rattle.protobuf.specs.declared.Bytes.the-variants.{At, Absent}
-use Rattle.protobuf.specs.declared.Found.{Found}
-use Rattle.protobuf.specs.declared.Found.the-variants.{Field as The, Absent as NoField}
+use Rattle.protobuf.specs.declared.Bytes.the-variants.{At}
 use Rattle.protobuf.specs.declared.Number.the-variants.{Given, Absent as NoNumber}
-use Rattle.protobuf.proofs.FindLaws.{bytes-within, parts-within}
 use Rattle.schedule.specs.declared.Moment.the-variants.{At as On, Absent as Never}
 use Rattle.schedule.specs.declared.Point.{Point}
+use Rattle.state.specs.Setup.{noPending}
 use Rattle.state.specs.declared.Device.{Device}
 use Rattle.state.specs.declared.Images.{Images}
 use Rattle.state.specs.declared.Pending.{Pending}
-use Rattle.transfer.specs.Block.{Inside}
-use Rattle.firmware.specs.Place.{isHash, hashAt, isText}
-use Rattle.firmware.specs.Load.{unchanged, withPending, withBackup, isOpen, openFault, sourceFault, pendingFault, loads, loadsAt, loadAnswered, cancels, cancelAnswered, backs, backupAnswered, noPending, booted}
-use Rattle.firmware.specs.Open.{InTransfer, sizedTexts, isGiven, numberOr0, isWhole, isOurs, faultOf, openedBy, replaced, opens, openIf, transferAnswered}
+use Rattle.firmware.specs.Place.{isHash, hashAt}
+use Rattle.firmware.specs.Load.{unchanged, withPending, withBackup, isOpen, openFault, sourceFault, pendingFault, loads, loadsAt, loadAnswered, cancels, cancelAnswered, backs, backupAnswered, booted}
+use Rattle.firmware.specs.Open.{sizedTexts, isGiven, numberOr0, isWhole, isOurs, faultOf, openedBy, replaced, opens, openIf, transferAnswered}
 
 -- bytes that end before they start are no hash
 pub hash-backward : (start stop : ℕ) (b : Bytes) → stop < start → b ≡ At start stop → isHash b ≡ false
 unfolding isHash
 hash-backward start stop b h e = rw e (ne-eqb (stop - start) 32 (λ q. omega arith))
-
--- bytes that are found lie in the value, in a part of it too
-pub inside : (v : List ℕ) (n : ℕ) (p : Bytes) → bytesIn v n ≡ p → Inside v p
-inside v n (At a e) h = bytes-within v n a e h
-inside v n Absent h = tt
-
-inside-part : (v : List ℕ) (n : ℕ) (p : Bytes) → bytesInParts v 1 n ≡ p → Inside v p
-unfolding bytesInParts placeOf
-inside-part v n p h = go (lastInParts v 1 n 2) refl p h
-  where
-    go : (r : Found) → lastInParts v 1 n 2 ≡ r → (p : Bytes) → placeOf r ≡ p → Inside v p
-    go (The f) g (At a e) k =
-        let b = parts-within v 1 n 2 f g in
-        let y : f .start ≡ a = cc in
-        let z : f .end ≡ e = cc in
-        omega arith
-    go NoField g (At a e) k = let z : _≡_ {A = ℕ} 0 1 = cc in absurd (omega arith)
-    go r g Absent k = tt
 
 -- a load: the first fault answers, and without one the hash becomes pending
 module _ (i : Images) (hash : List ℕ) (time : Point) where
@@ -83,10 +62,6 @@ module _ (i : Images) (hash : List ℕ) where
 
 -- a LoadRequest by its hash and its time
 module _ (v : List ℕ) (l : Load) (e : l ≡ loadOf v) where
-  pub load-inside : Inside v (l .hash)
-  unfolding loadOf
-  load-inside = inside v 1 (l .hash) (sym (ap (λ (x : Load). x .hash) e))
-
   module _ (i : Images) where
     pub load-bad : isHash (l .hash) ≡ false → loadAnswered i v ≡ unchanged i 6
     unfolding loadAnswered
@@ -107,10 +82,6 @@ module _ (v : List ℕ) (l : Load) (e : l ≡ loadOf v) where
 
 -- a CancelLoadRequest and a SetBackupRequest by their hash
 module _ (v : List ℕ) (x : ImageHash) (e : x ≡ hashOf v) where
-  pub hash-inside : Inside v (x .hash)
-  unfolding hashOf
-  hash-inside = inside v 1 (x .hash) (sym (ap (λ (y : ImageHash). y .hash) e))
-
   module _ (i : Images) where
     pub cancel-bad : isHash (x .hash) ≡ false → cancelAnswered i v ≡ unchanged i 6
     unfolding cancelAnswered
@@ -179,17 +150,6 @@ module _ (i : Images) (m : Image) where
 
 -- a TransferRequest: whole, without a fault, then opened
 module _ (v : List ℕ) (t : Transfer) (e : t ≡ transferOf v) where
-  pub transfer-inside : InTransfer v t
-  unfolding transferOf
-  transfer-inside =
-      record {
-        hw = inside-part v 1 (t .«hw_id») (sym (ap (λ (x : Transfer). x .«hw_id») e));
-        vendor = inside-part v 2 (t .«vendor_hw_id») (sym (ap (λ (x : Transfer). x .«vendor_hw_id») e));
-        hash = inside v 2 (t .hash) (sym (ap (λ (x : Transfer). x .hash) e));
-        name = inside v 3 (t .name) (sym (ap (λ (x : Transfer). x .name) e));
-        version = inside v 4 (t .version) (sym (ap (λ (x : Transfer). x .version) e));
-      }
-
   module _ (d : Device) (i : Images) where
     pub transfer-bad : isWhole t ≡ false → transferAnswered d i v ≡ unchanged i 6
     unfolding transferAnswered

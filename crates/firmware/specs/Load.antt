@@ -1,15 +1,15 @@
 -- Records 68 to 70, document 01, "Transfer": the answers, first that applies.
 use Prim.Native.Nat.{ℕ}
 use mathlib.Core.List.{List}
-use mathlib.Core.Bool.{Bool, true, false, _&&_}
-use lib.ListN.{replicate}
+use mathlib.Core.Bool.{Bool, true, _&&_}
 use lib.Dec.{eqb}
 use Rattle.buffer.specs.Pick.{pick}
 use Rattle.buffer.specs.Same.{sameBytes}
-use Rattle.csmp.specs.Read.{loadOf, hashOf}
+use Rattle.decode.specs.Read.{loadOf, hashOf}
 use Rattle.schedule.specs.declared.Point.{Point}
 use Rattle.schedule.specs.declared.Moment.{Moment}
 use Rattle.schedule.specs.declared.Moment.the-variants.{At, Absent}
+use Rattle.state.specs.Setup.{noPending}
 use Rattle.state.specs.declared.Images.{Images}
 use Rattle.state.specs.declared.Pending.{Pending}
 use Rattle.csmp.specs.declared.Hash.{Hash}
@@ -68,9 +68,6 @@ unfoldable pub loadAnswered : Images → List ℕ → Answered
 loadAnswered i v = pick (isHash (loadOf v .hash)) (loadsAt i (hashAt v (loadOf v .hash)) (loadOf v .time)) (unchanged i 6)
 
 -- 69: the pending hash: cleared, 0; 9 the running one; else 3
-abbrev pub noPending : Pending
-noPending = record { is = false; hash = replicate 32 0; time = record { 0 = 0 } }
-
 unfoldable pub cancels : Images → List ℕ → Answered
 cancels i hash =
     pick (isPending i hash) (unchanged (withPending i noPending) 0) (pick (sameBytes (i .running) hash) (unchanged i 9) (unchanged i 3))

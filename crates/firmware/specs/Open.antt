@@ -5,26 +5,18 @@ use mathlib.Core.Bool.{Bool, true, false, not, _&&_, _||_}
 use lib.ListN.{take, replicate}
 use lib.Dec.{eqb, ltb}
 use Rattle.buffer.specs.Pick.{pick}
-use Rattle.csmp.specs.Read.{atMost, transferOf}
+use Rattle.decode.specs.Read.{atMost, transferOf}
 use Rattle.csmp.specs.declared.Image.{Image}
-use Rattle.csmp.specs.declared.Transfer.{Transfer}
+use Rattle.decode.specs.declared.Transfer.{Transfer}
+use Rattle.protobuf.specs.Find.{isText}
 use Rattle.protobuf.specs.declared.Number.{Number}
 use Rattle.protobuf.specs.declared.Number.the-variants.{Given, Absent}
 use Rattle.state.specs.declared.Device.{Device}
 use Rattle.state.specs.declared.Images.{Images}
-use Rattle.transfer.specs.Block.{Inside}
 use Rattle.transfer.specs.Blocks.{blocks}
-use Rattle.firmware.specs.Place.{isHash, hashAt, nameAt, versionAt, isText}
+use Rattle.firmware.specs.Place.{isHash, hashAt, nameAt, versionAt}
 use Rattle.firmware.specs.Load.{unchanged, isOpen}
 use Rattle.firmware.specs.declared.Answered.{Answered}
-
--- the bytes that a request names lie in its value
-pub record InTransfer (v : List ℕ) (t : Transfer) : Type 0 where
-  pub hw : Inside v (t .«hw_id»)
-  pub vendor : Inside v (t .«vendor_hw_id»)
-  pub hash : Inside v (t .hash)
-  pub name : Inside v (t .name)
-  pub version : Inside v (t .version)
 
 -- 6: a string over its size
 unfoldable pub sizedTexts : Transfer → Bool

@@ -2,10 +2,9 @@
 use Prim.Native.Nat.{ℕ, _-_}
 use mathlib.Core.List.{List}
 use mathlib.Core.Bool.{Bool, true, false}
-use lib.ListN.{take, drop, replicate}
+use lib.ListN.{length, take, drop, replicate}
 use lib.Dec.{eqb}
 use lib.Seq.{sets}
-use Rattle.buffer.specs.Same.{sameBytes}
 use Rattle.csmp.specs.declared.Hash.{Hash}
 use Rattle.csmp.specs.declared.Name.{Name}
 use Rattle.csmp.specs.declared.Version.{Version}
@@ -30,14 +29,9 @@ unfoldable pub echoed : List ℕ → ℕ → Hash
 echoed v n = record { given = isHash (bytesIn v n); bytes = hashAt v (bytesIn v n) }
 
 unfoldable pub nameAt : List ℕ → Bytes → Name
-nameAt v (At start stop) = record { given = true; bytes = sets (replicate 128 0) 0 (bytesAt v start stop); len = stop - start }
+nameAt v (At start stop) = record { given = true; bytes = sets (replicate 128 0) 0 (bytesAt v start stop); len = length (bytesAt v start stop) }
 nameAt v Absent = record { given = false; bytes = replicate 128 0; len = 0 }
 
 unfoldable pub versionAt : List ℕ → Bytes → Version
-versionAt v (At start stop) = record { given = true; bytes = sets (replicate 32 0) 0 (bytesAt v start stop); len = stop - start }
+versionAt v (At start stop) = record { given = true; bytes = sets (replicate 32 0) 0 (bytesAt v start stop); len = length (bytesAt v start stop) }
 versionAt v Absent = record { given = false; bytes = replicate 32 0; len = 0 }
-
--- whether bytes of a value are a text, with an answer for absent ones
-unfoldable pub isText : List ℕ → List ℕ → Bool → Bytes → Bool
-isText text v absent (At start stop) = sameBytes text (bytesAt v start stop)
-isText text v absent Absent = absent

@@ -7,7 +7,7 @@ use schedule::Point;
 use state::Images;
 use state::Pending;
 ghost use mathlib.Core.Path.{_≡_};
-ghost use Rattle.firmware.specs.Load.{unchanged, isOpen, isBackup, isPending, openFault, sourceFault, pendingFault, loads, loadAnswered, noPending, cancels, cancelAnswered, backs, backupAnswered, booted};
+ghost use Rattle.firmware.specs.Load.{unchanged, isOpen, isBackup, isPending, openFault, sourceFault, pendingFault, loads, loadAnswered, cancels, cancelAnswered, backs, backupAnswered, booted};
 
 pub fn keep(images: Images, answer: u32) -> Answered
     ensures { λ r. ⌜ r ≡ unchanged images answer ⌝ }
@@ -99,7 +99,7 @@ fn load(images: Images, hash: [u8; 32], time: Point) -> Answered
 pub fn answer_load(images: Images, v: &[u8]) -> Answered
     ensures { λ r. ⌜ r ≡ loadAnswered images (now (v .entry)) ⌝ }
 {
-    let l = csmp::read_load(v);
+    let l = decode::read_load(v);
     let given = l.hash;
     if !place::is_hash(given) {
         return keep(images, crate::INVALID_REQ);
@@ -114,22 +114,12 @@ pub fn answer_load(images: Images, v: &[u8]) -> Answered
     load(images, place::hash_at(v, given), t)
 }
 
-fn none_pending() -> Pending
-    ensures { λ r. ⌜ r ≡ noPending ⌝ }
-{
-    Pending {
-        is: false,
-        hash: [0; 32],
-        time: Point(0),
-    }
-}
-
 // The pending hash is cleared; the running one can't be; others are unknown.
 fn cancel(images: Images, hash: [u8; 32]) -> Answered
     ensures { λ r. ⌜ r ≡ cancels images hash ⌝ }
 {
     if is_pending(images, hash) {
-        let pending = none_pending();
+        let pending = state::no_pending();
         let mut next = images;
         next.pending = pending;
         return keep(next, crate::OK);
@@ -145,7 +135,7 @@ fn cancel(images: Images, hash: [u8; 32]) -> Answered
 pub fn answer_cancel(images: Images, v: &[u8]) -> Answered
     ensures { λ r. ⌜ r ≡ cancelAnswered images (now (v .entry)) ⌝ }
 {
-    let h = csmp::read_hash(v);
+    let h = decode::read_hash(v);
     let given = h.hash;
     if !place::is_hash(given) {
         return keep(images, crate::INVALID_REQ);
@@ -177,7 +167,7 @@ fn back_up(images: Images, hash: [u8; 32]) -> Answered
 pub fn answer_backup(images: Images, v: &[u8]) -> Answered
     ensures { λ r. ⌜ r ≡ backupAnswered images (now (v .entry)) ⌝ }
 {
-    let h = csmp::read_hash(v);
+    let h = decode::read_hash(v);
     let given = h.hash;
     if !place::is_hash(given) {
         return keep(images, crate::INVALID_REQ);
@@ -193,7 +183,7 @@ pub fn boot(images: Images) -> Images
         return images;
     }
     let running = images.pending.hash;
-    let pending = none_pending();
+    let pending = state::no_pending();
     let mut next = images;
     next.running = running;
     next.pending = pending;

@@ -3,31 +3,31 @@ use crate::Answered;
 use crate::load;
 use crate::place;
 use csmp::Image;
-use csmp::Transfer;
+use decode::Transfer;
 use protobuf::Number;
 use state::Device;
 use state::Images;
 ghost use mathlib.Core.Path.{_≡_};
-ghost use Rattle.firmware.specs.Open.{InTransfer, sizedTexts, isWhole, isOurs, numberOr0, faultOf, openedBy, replaced, opens, transferAnswered};
+ghost use Rattle.firmware.specs.Open.{sizedTexts, isWhole, isOurs, numberOr0, faultOf, openedBy, replaced, opens, transferAnswered};
 
 // Whether every text is within its size.
 fn sized_texts(t: Transfer) -> bool
     ensures { λ r. ⌜ r ≡ sizedTexts t ⌝ }
 {
     let hw_id = t.hw_id;
-    if !csmp::at_most(hw_id, 32) {
+    if !decode::at_most(hw_id, 32) {
         return false;
     }
     let vendor = t.vendor_hw_id;
-    if !csmp::at_most(vendor, 32) {
+    if !decode::at_most(vendor, 32) {
         return false;
     }
     let name = t.name;
-    if !csmp::at_most(name, 128) {
+    if !decode::at_most(name, 128) {
         return false;
     }
     let version = t.version;
-    csmp::at_most(version, 32)
+    decode::at_most(version, 32)
 }
 
 // Whether what must be there is there: a hash of 32 bytes, a size that is not 0, a block size.
@@ -54,17 +54,16 @@ fn is_whole(t: Transfer) -> bool
 
 // Whether the request is for this device's hardware.
 fn is_ours(device: Device, v: &[u8], t: Transfer) -> bool
-    requires { ⌜ InTransfer (now v) t ⌝ }
     ensures { λ r. ⌜ r ≡ isOurs device (now (v .entry)) t ⌝ }
 {
     let ours = device.hw_id.bytes;
     let hw_id = t.hw_id;
-    if !place::is_text(buffer::front(&ours, device.hw_id.len), v, hw_id, false) {
+    if !protobuf::is_text(buffer::front(&ours, device.hw_id.len), v, hw_id, false) {
         return false;
     }
     let vendors = device.vendor_hw_id.bytes;
     let vendor = t.vendor_hw_id;
-    place::is_text(
+    protobuf::is_text(
         buffer::front(&vendors, device.vendor_hw_id.len),
         v,
         vendor,
@@ -84,7 +83,6 @@ fn number_or_zero(n: Number) -> u32
 
 // The answers 7, 1, 8 and 4, in this order; 0 where none applies.
 fn fault(device: Device, images: Images, v: &[u8], t: Transfer, size: u32, block_size: u32) -> u32
-    requires { ⌜ InTransfer (now v) t ⌝ }
     ensures { λ r. ⌜ r ≡ faultOf device images (now (v .entry)) t size «block_size» ⌝ }
 {
     if block_size == 0 {
@@ -110,7 +108,6 @@ fn fault(device: Device, images: Images, v: &[u8], t: Transfer, size: u32, block
 
 // The image that a request opens: an empty bitmap.
 fn opened(v: &[u8], t: Transfer, size: u32, block_size: u32) -> Image
-    requires { ⌜ InTransfer (now v) t ⌝ }
     ensures { λ r. ⌜ r ≡ openedBy (now (v .entry)) t size «block_size» ⌝ }
 {
     let file_hash = t.hash;
@@ -160,7 +157,7 @@ fn open_or_keep(images: Images, image: Image) -> Answered
 pub fn answer_transfer(device: Device, images: Images, v: &[u8]) -> Answered
     ensures { λ r. ⌜ r ≡ transferAnswered device images (now (v .entry)) ⌝ }
 {
-    let t = csmp::read_transfer(v);
+    let t = decode::read_transfer(v);
     if !is_whole(t) {
         return load::keep(images, crate::INVALID_REQ);
     }

@@ -5,8 +5,7 @@ use csmp::Version;
 use protobuf::Bytes;
 ghost use mathlib.Core.Path.{_≡_};
 ghost use mathlib.Core.Bool.{_&&_};
-ghost use Rattle.transfer.specs.Block.{Inside};
-ghost use Rattle.firmware.specs.Place.{isHash, hashAt, echoed, nameAt, versionAt, isText};
+ghost use Rattle.firmware.specs.Place.{isHash, hashAt, echoed, nameAt, versionAt};
 ghost use Rattle.buffer.specs.Same.{sameBytes};
 
 // Whether bytes are there and are 32: a hash.
@@ -24,14 +23,13 @@ pub(crate) fn is_hash(place: Bytes) -> bool
 
 // The bytes, at the front of zeros.
 pub(crate) fn hash_at(v: &[u8], place: Bytes) -> [u8; 32]
-    requires { ⌜ Inside (now v) place ⌝ }
     ensures { λ r. ⌜ r ≡ hashAt (now (v .entry)) place ⌝ }
 {
     let mut bytes = [0u8; 32];
     let Bytes::At(start, end) = place else {
         return bytes;
     };
-    buffer::copy(&mut bytes, &v[start..end]);
+    buffer::copy(&mut bytes, buffer::part(v, start, end));
     bytes
 }
 
@@ -46,7 +44,6 @@ pub fn echo(v: &[u8], number: u32) -> Hash
 }
 
 pub(crate) fn name_at(v: &[u8], place: Bytes) -> Name
-    requires { ⌜ Inside (now v) place ⌝ }
     ensures { λ r. ⌜ r ≡ nameAt (now (v .entry)) place ⌝ }
 {
     let mut bytes = [0u8; 128];
@@ -57,16 +54,16 @@ pub(crate) fn name_at(v: &[u8], place: Bytes) -> Name
             len: 0,
         };
     };
-    buffer::copy(&mut bytes, &v[start..end]);
+    let text = buffer::part(v, start, end);
+    buffer::copy(&mut bytes, text);
     Name {
         given: true,
         bytes,
-        len: end - start,
+        len: text.len(),
     }
 }
 
 pub(crate) fn version_at(v: &[u8], place: Bytes) -> Version
-    requires { ⌜ Inside (now v) place ⌝ }
     ensures { λ r. ⌜ r ≡ versionAt (now (v .entry)) place ⌝ }
 {
     let mut bytes = [0u8; 32];
@@ -77,23 +74,13 @@ pub(crate) fn version_at(v: &[u8], place: Bytes) -> Version
             len: 0,
         };
     };
-    buffer::copy(&mut bytes, &v[start..end]);
+    let text = buffer::part(v, start, end);
+    buffer::copy(&mut bytes, text);
     Version {
         given: true,
         bytes,
-        len: end - start,
+        len: text.len(),
     }
-}
-
-// Whether bytes of a value, if they are there, are a text; `absent` is the answer where they are not.
-pub(crate) fn is_text(text: &[u8], v: &[u8], place: Bytes, absent: bool) -> bool
-    requires { ⌜ Inside (now v) place ⌝ }
-    ensures { λ r. ⌜ r ≡ isText (now (text .entry)) (now (v .entry)) absent place ⌝ }
-{
-    let Bytes::At(start, end) = place else {
-        return absent;
-    };
-    buffer::same(text, &v[start..end])
 }
 
 pub(crate) fn same_hash(a: [u8; 32], b: [u8; 32]) -> bool

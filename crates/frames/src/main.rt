@@ -9,12 +9,11 @@ use coap::CoapOption;
 use coap::Datagram;
 use coap::Frame;
 use coap::Next;
-use coap::Path;
-use coap::Query;
 use decimal::Ids;
 use libc::STDIN_FILENO;
 use libc::STDOUT_FILENO;
-use tlv::Cursor;
+use request::Path;
+use request::Query;
 use tlv::Taken;
 
 fn say(text: &[u8]) {
@@ -108,7 +107,7 @@ fn print_query(s: &[u8], query: Query) {
         Query::One(start, end) => {
             if start <= end {
                 if end <= s.len() {
-                    print_ids(coap::asked_ids(&s[start..end]));
+                    print_ids(request::asked_ids(&s[start..end]));
                 }
             }
         }
@@ -119,13 +118,13 @@ fn print_query(s: &[u8], query: Query) {
 }
 
 fn print_request(s: &[u8], from: usize) {
-    if coap::refused(s, from) {
+    if request::refused(s, from) {
         say(b"request refused");
     } else {
         say(b"request taken");
     }
-    print_path(coap::request_path(s, from));
-    print_query(s, coap::request_query(s, from));
+    print_path(request::request_path(s, from));
+    print_query(s, request::request_query(s, from));
     say(b"\n");
 }
 
@@ -183,14 +182,14 @@ fn print_record(s: &[u8], start: usize, end: usize, kind: u64) {
 }
 
 fn print_records(s: &[u8]) {
-    let mut cursor = Cursor { at: 0 };
-    while cursor.at < s.len() {
-        let Taken::Record(r) = tlv::take_record(s, cursor.at) else {
+    let mut at = 0;
+    while at < s.len() {
+        let Taken::Record(r) = tlv::take_record(s, at) else {
             say(b"unreadable\n");
             return;
         };
         print_record(s, r.start, r.end, r.kind);
-        cursor = Cursor { at: r.end };
+        at = r.end;
     }
 }
 

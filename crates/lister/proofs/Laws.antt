@@ -5,7 +5,7 @@ use mathlib.Core.List.{List, [], _∷_, _++_, append-nil, append-assoc}
 use native.Mathlib.Omega.{arith}
 use borrow.Author.Tests.{lt-ltb, le-ltb}
 use lib.ListN.{length, take, drop, getD, length-take}
-use lib.Seq.{sets, sets-eq, take-suc, take-all, take-append-seam}
+use lib.Seq.{sets-eq, take-suc, take-all, take-append-seam}
 use Rattle.agent.specs.Datagram.{Effect, Left}
 use Rattle.agent.specs.declared.Answer.{Answer}
 use Rattle.buffer.specs.Put.{Put, Appended}

@@ -24,20 +24,20 @@ fn made(out: &[u8], n: usize) {
 
 fn time() {
     let mut out = [0u8; 1024];
-    let n = csmp::put_time(&mut out, 0, Point(1700000000));
+    let n = encode::put_time(&mut out, 0, Point(1700000000));
     made(&out, n);
 }
 
 fn group() {
     let mut out = [0u8; 1024];
-    let n = csmp::put_group(&mut out, 0, 1, 300);
+    let n = encode::put_group(&mut out, 0, 1, 300);
     made(&out, n);
 }
 
 // A record that does not fit is not written.
 fn cut() {
     let mut out = [0u8; 6];
-    let n = csmp::put_group(&mut out, 0, 1, 300);
+    let n = encode::put_group(&mut out, 0, 1, 300);
     made(&out, n);
 }
 
@@ -46,7 +46,7 @@ fn session() {
     let mut bytes = [0u8; 64];
     bytes[0] = b'a';
     bytes[1] = b'b';
-    let n = csmp::put_session(&mut out, 0, SessionId { bytes, len: 2 });
+    let n = encode::put_session(&mut out, 0, SessionId { bytes, len: 2 });
     made(&out, n);
 }
 
@@ -61,14 +61,14 @@ fn report() {
     let beat = Interval::Every(Length(0));
     let first = listed(58, 4294967295);
     let second = listed(0, 22);
-    let n = csmp::put_report(&mut out, 0, every, first, beat, second);
+    let n = encode::put_report(&mut out, 0, every, first, beat, second);
     made(&out, n);
 }
 
 fn nothing_to_report() {
     let mut out = [0u8; 1024];
     let none = decimal::no_ids();
-    let n = csmp::put_report(&mut out, 0, Interval::Absent, none, Interval::Absent, none);
+    let n = encode::put_report(&mut out, 0, Interval::Absent, none, Interval::Absent, none);
     made(&out, n);
 }
 
@@ -78,7 +78,7 @@ fn index() {
     list[0] = 11;
     list[1] = 75;
     list[2] = 4294967295;
-    let n = csmp::put_index(&mut out, 0, Index { list, count: 3 });
+    let n = encode::put_index(&mut out, 0, Index { list, count: 3 });
     made(&out, n);
 }
 
@@ -92,21 +92,21 @@ fn responses() {
         given: false,
         bytes: [7; 32],
     };
-    let a = csmp::put_response(&mut out, 0, 71, some, 0, Moment::Absent);
-    let b = csmp::put_response(&mut out, a, 72, none, 6, Moment::Absent);
-    let n = csmp::put_response(&mut out, b, 72, some, 0, Moment::At(Point(1)));
+    let a = encode::put_response(&mut out, 0, 71, some, 0, Moment::Absent);
+    let b = encode::put_response(&mut out, a, 72, none, 6, Moment::Absent);
+    let n = encode::put_response(&mut out, b, 72, some, 0, Moment::At(Point(1)));
     made(&out, n);
 }
 
 fn running() {
     let mut out = [0u8; 1024];
-    let n = csmp::put_running(&mut out, 0, [0; 32]);
+    let n = encode::put_running(&mut out, 0, [0; 32]);
     made(&out, n);
 }
 
 fn backup() {
     let mut out = [0u8; 1024];
-    let n = csmp::put_backup(&mut out, 0, [9; 32], Moment::At(Point(1700000000)));
+    let n = encode::put_backup(&mut out, 0, [9; 32], Moment::At(Point(1700000000)));
     made(&out, n);
 }
 
@@ -133,7 +133,7 @@ fn open() {
         block_size: 1000,
         bitmap,
     };
-    let n = csmp::put_open(&mut out, 0, image, 1, Moment::Absent);
+    let n = encode::put_open(&mut out, 0, image, 1, Moment::Absent);
     made(&out, n);
 }
 

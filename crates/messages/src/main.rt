@@ -5,7 +5,6 @@ mod made;
 mod show;
 
 use libc::STDIN_FILENO;
-use tlv::Cursor;
 use tlv::Taken;
 
 // What the reader of a record's type says of its value.
@@ -37,14 +36,14 @@ fn show_part(s: &[u8], kind: u64, start: usize, end: usize) {
 }
 
 fn show_records(s: &[u8]) {
-    let mut cursor = Cursor { at: 0 };
-    while cursor.at < s.len() {
-        let Taken::Record(r) = tlv::take_record(s, cursor.at) else {
+    let mut at = 0;
+    while at < s.len() {
+        let Taken::Record(r) = tlv::take_record(s, at) else {
             lines::word(b"unreadable\n");
             return;
         };
         show_part(s, r.kind, r.start, r.end);
-        cursor = Cursor { at: r.end };
+        at = r.end;
     }
 }
 

@@ -97,7 +97,7 @@ fn ids(l: Ids) {
 }
 
 pub fn redirect(v: &[u8]) {
-    let m = csmp::read_redirect(v);
+    let m = decode::read_redirect(v);
     readable(m.readable);
     let url = m.url;
     bytes(v, url);
@@ -106,14 +106,14 @@ pub fn redirect(v: &[u8]) {
 }
 
 pub fn session(v: &[u8]) {
-    let m = csmp::read_session(v);
+    let m = decode::read_session(v);
     readable(m.readable);
     let id = m.id;
     bytes(v, id);
 }
 
 pub fn report(v: &[u8]) {
-    let m = csmp::read_report(v);
+    let m = decode::read_report(v);
     readable(m.readable);
     let every = m.interval;
     interval(every);
@@ -126,7 +126,7 @@ pub fn report(v: &[u8]) {
 }
 
 pub fn group(v: &[u8]) {
-    let m = csmp::read_group(v);
+    let m = decode::read_group(v);
     readable(m.readable);
     let kind = m.kind;
     given(kind);
@@ -135,7 +135,7 @@ pub fn group(v: &[u8]) {
 }
 
 pub fn transfer(v: &[u8]) {
-    let m = csmp::read_transfer(v);
+    let m = decode::read_transfer(v);
     readable(m.readable);
     let hw_id = m.hw_id;
     bytes(v, hw_id);
@@ -154,7 +154,7 @@ pub fn transfer(v: &[u8]) {
 }
 
 pub fn block(v: &[u8]) {
-    let m = csmp::read_block(v);
+    let m = decode::read_block(v);
     readable(m.readable);
     let file_hash = m.hash;
     bytes(v, file_hash);
@@ -165,7 +165,7 @@ pub fn block(v: &[u8]) {
 }
 
 pub fn load(v: &[u8]) {
-    let m = csmp::read_load(v);
+    let m = decode::read_load(v);
     readable(m.readable);
     let file_hash = m.hash;
     bytes(v, file_hash);
@@ -174,14 +174,14 @@ pub fn load(v: &[u8]) {
 }
 
 pub fn hash(v: &[u8]) {
-    let m = csmp::read_hash(v);
+    let m = decode::read_hash(v);
     readable(m.readable);
     let file_hash = m.hash;
     bytes(v, file_hash);
 }
 
 pub fn validity(v: &[u8]) {
-    let m = csmp::read_validity(v);
+    let m = decode::read_validity(v);
     readable(m.readable);
     let from = m.not_before;
     moment(from);
@@ -190,5 +190,5 @@ pub fn validity(v: &[u8]) {
 }
 
 pub fn signature(v: &[u8]) {
-    readable(csmp::read_signature(v));
+    readable(decode::read_signature(v));
 }

@@ -1,10 +1,10 @@
 -- Laws of copying: appending in pieces, and the chosen records from a position on.
-use Prim.Native.Nat.{ℕ, zero, suc, _+_, _-_, _≤_, _<_}
-use mathlib.Core.Path.{_≡_, refl, sym, ap, _∙_}
-use mathlib.Core.List.{List, [], _∷_, _++_, append-nil, append-assoc}
+use Prim.Native.Nat.{ℕ, suc, _+_, _-_, _≤_, _<_}
+use mathlib.Core.Path.{_≡_, refl, sym, _∙_}
+use mathlib.Core.List.{List, [], _++_, append-nil, append-assoc}
 use mathlib.Core.Bool.{Bool, true, false, not}
 use native.Mathlib.Omega.{arith}
-use borrow.Author.Tests.{eq-eqb, ne-eqb, lt-ltb, le-ltb}
+use borrow.Author.Tests.{lt-ltb, le-ltb}
 use lib.Dec.{eqb}
 use lib.ListN.{length, take, drop, getD, length-take, drop-of-length-le}
 use Rattle.buffer.specs.Pick.{pick}
@@ -137,11 +137,11 @@ module _ (store own list : List ℕ) (count : ℕ) where
       rw z (going-more (shownOf store own id) (shownAll store own (drop (suc i) (take count list))) (rw (head list count i 0 h k, ← e) at g) p)
 
 -- what fits is content, else it is forbidden
-module _ (end len : ℕ) where
-  pub content-over : len < end → contentIn end len ≡ record { code = 131; end = 0 }
+module _ (end : ℕ) where
+  pub content-over : 1273 < end → contentIn end ≡ record { code = 131; end = 0 }
   unfolding contentIn
-  content-over h = rw (lt-ltb len end h)
+  content-over h = rw (lt-ltb 1273 end h)
 
-  pub content-fits : end ≤ len → contentIn end len ≡ record { code = 69; end = end }
+  pub content-fits : end ≤ 1273 → contentIn end ≡ record { code = 69; end = end }
   unfolding contentIn
-  content-fits h = rw (le-ltb len end h)
+  content-fits h = rw (le-ltb 1273 end h)

@@ -12,7 +12,7 @@ use Rattle.buffer.specs.Put.{Put, Appended, after}
 use Rattle.buffer.proofs.Puts.{put-fits, appended-put, appended-join, appended-all, appended-front}
 use Rattle.buffer.proofs.Stretches.{fits-true, fits-false}
 use Rattle.coap.specs.Write.{registrationHead, reportHead}
-use Rattle.csmp.specs.Write.{sessionRecord, timeRecord}
+use Rattle.encode.specs.Write.{sessionRecord, timeRecord}
 use Rattle.decimal.specs.Ids.{held}
 use Rattle.decimal.specs.declared.Ids.{Ids}
 use Rattle.schedule.specs.declared.Point.{Point}

@@ -5,7 +5,7 @@ use lib.Dec.{eqb, ltb}
 use lib.ListN.{length, take}
 use Rattle.buffer.specs.Pick.{pick}
 use Rattle.coap.specs.Write.{registrationHead, reportHead}
-use Rattle.csmp.specs.Write.{sessionRecord, timeRecord}
+use Rattle.encode.specs.Write.{sessionRecord, timeRecord}
 use Rattle.decimal.specs.Ids.{held}
 use Rattle.decimal.specs.declared.Ids.{Ids}
 use Rattle.schedule.specs.declared.Point.{Point}

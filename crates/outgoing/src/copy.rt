@@ -1,6 +1,5 @@
 // Records copied as bytes: those of an id or all others, from the host's store or from the agent's own.
 use decimal::Ids;
-use tlv::Cursor;
 use tlv::Taken;
 ghost use mathlib.Core.Path.{_≡_};
 ghost use Prim.Native.Nat.{_+_, _≤_};
@@ -77,15 +76,14 @@ pub(crate) fn copy_records(s: &[u8], choice: Choice, out: &mut [u8], at: usize) 
     ensures { λ r. ⌜ Appended (now (out .entry)) at (copies (now (s .entry)) choice) (now (out .exit)) r ⌝ }
 {
     let mut end = at;
-    let mut cursor = Cursor { at: 0 };
-    while cursor.at < s.len() {
-        let Taken::Record(r) = tlv::take_record(s, cursor.at) else {
+    let mut start = 0;
+    while start < s.len() {
+        let Taken::Record(r) = tlv::take_record(s, start) else {
             return end;
         };
-        let start = cursor.at;
         let stop = r.end;
         end = copy_if(is_chosen(choice, r.kind), &s[start..stop], out, end);
-        cursor = Cursor { at: stop };
+        start = stop;
     }
     end
 }

@@ -25,7 +25,7 @@ pub(crate) fn put_subscription(a: Assigned, out: &mut [u8], at: usize) -> usize
     let ids = a.ids;
     let heartbeat = a.heartbeat;
     let heartbeat_ids = a.heartbeat_ids;
-    csmp::put_report(out, at, interval, ids, heartbeat, heartbeat_ids)
+    encode::put_report(out, at, interval, ids, heartbeat, heartbeat_ids)
 }
 
 // GroupInfo for each group.
@@ -41,7 +41,7 @@ pub(crate) fn put_groups(groups: Groups, out: &mut [u8], at: usize) -> usize
             return end;
         }
         let pair = list[i];
-        end = csmp::put_group(out, end, pair.kind, pair.id);
+        end = encode::put_group(out, end, pair.kind, pair.id);
         i += 1;
     }
     end
@@ -81,7 +81,7 @@ fn put_open(images: Images, out: &mut [u8], at: usize) -> usize
     let pending = images.pending;
     let hash = images.image.hash;
     let time = load_time(pending, hash);
-    csmp::put_open(out, at, image, map_len(image), time)
+    encode::put_open(out, at, image, map_len(image), time)
 }
 
 // FirmwareImageInfo of the backup.
@@ -95,7 +95,7 @@ fn put_backup(images: Images, out: &mut [u8], at: usize) -> usize
     let pending = images.pending;
     let hash = images.backup.bytes;
     let time = load_time(pending, hash);
-    csmp::put_backup(out, at, hash, time)
+    encode::put_backup(out, at, hash, time)
 }
 
 // FirmwareImageInfo in its rows: running, open, backup.
@@ -103,7 +103,7 @@ fn put_images(images: Images, out: &mut [u8], at: usize) -> usize
     ensures { λ r. ⌜ Appended (now (out .entry)) at (imagesShown images) (now (out .exit)) r ⌝ }
 {
     let running = images.running;
-    let a = csmp::put_running(out, at, running);
+    let a = encode::put_running(out, at, running);
     let b = put_open(images, out, a);
     put_backup(images, out, b)
 }
@@ -117,7 +117,7 @@ pub(crate) fn put_own(state: State, time: Point, out: &mut [u8]) -> usize
     let groups = state.assigned.groups;
     let images = state.images;
     let a = put_subscription(assigned, out, 0);
-    let b = csmp::put_time(out, a, time);
+    let b = encode::put_time(out, a, time);
     let c = put_groups(groups, out, b);
     put_images(images, out, c)
 }

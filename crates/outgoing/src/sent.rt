@@ -31,7 +31,7 @@ fn put_session(a: Assigned, out: &mut [u8], at: usize) -> usize
         return at;
     }
     let session = a.session;
-    csmp::put_session(out, at, session)
+    encode::put_session(out, at, session)
 }
 
 // What a registration tells behind DeviceID.
@@ -40,7 +40,7 @@ fn put_known(state: State, store: &[u8], time: Point, out: &mut [u8], at: usize)
 {
     let assigned = state.assigned;
     let groups = state.assigned.groups;
-    let a = csmp::put_time(out, at, time);
+    let a = encode::put_time(out, at, time);
     let b = put_session(assigned, out, a);
     let c = own::put_groups(groups, out, b);
     let d = own::put_subscription(assigned, out, c);
@@ -92,7 +92,7 @@ pub fn put_report(state: State, store: &[u8], time: Point, which: Report, out: &
     let mut body = [0u8; 1280];
     let a = coap::put_report(&mut body, 0, state.registration.message_id);
     let b = put_session(assigned, &mut body, a);
-    let c = csmp::put_time(&mut body, b, time);
+    let c = encode::put_time(&mut body, b, time);
     let end = copy::copy_ids(store, &own[..n], ids, &mut body, c);
     send(out, &body, end)
 }

@@ -10,7 +10,6 @@ mod show;
 use libc::STDIN_FILENO;
 use schedule::Point;
 use state::State;
-use tlv::Cursor;
 use tlv::Record;
 use tlv::Taken;
 
@@ -94,7 +93,7 @@ fn play_record(
     lines::number(n);
     let next = act(state, image, value(s, store), r.kind, value(s, r));
     if images {
-        show::images(next.images);
+        show::images(next);
         show::checksum(image);
     }
     lines::word(b"\n");
@@ -110,16 +109,16 @@ fn play(s: &[u8], images: bool) {
         start: 0,
         end: 0,
     };
-    let mut cursor = Cursor { at: 0 };
+    let mut at = 0;
     let mut n = 0;
-    while cursor.at < s.len() {
-        let Taken::Record(r) = tlv::take_record(s, cursor.at) else {
+    while at < s.len() {
+        let Taken::Record(r) = tlv::take_record(s, at) else {
             lines::word(b"unreadable\n");
             return;
         };
         store = stored(store, r);
         state = play_record(state, &mut image, s, store, r, n, images);
-        cursor = Cursor { at: r.end };
+        at = r.end;
         n += 1;
     }
 }

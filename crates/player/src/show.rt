@@ -1,6 +1,6 @@
 // The parts of a line.
 use agent::Answer;
-use state::Images;
+use state::State;
 
 // A blank and a number.
 fn next(n: u64) {
@@ -51,17 +51,17 @@ fn complete(all: bool) {
 }
 
 // The open image: its blocks, the front of its bitmap, and whether none is missing.
-pub fn images(i: Images) {
-    if !i.open {
+pub fn images(state: State) {
+    if !state.images.open {
         lines::word(b" 0 - closed");
         return;
     }
-    let image = i.image;
+    let image = state.images.image;
     let blocks = transfer::block_count(image.size, image.block_size);
     next(blocks);
     let map = image.bitmap;
     bitmap(map, blocks);
-    complete(transfer::is_complete(image));
+    complete(agent::is_complete(state));
 }
 
 // Bytes as one number, high byte first, modulo 65,521.

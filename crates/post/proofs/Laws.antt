@@ -10,7 +10,7 @@ use types.Run.{OneOf}
 use lib.Dec.{leb}
 use lib.ListN.{length, take, drop, getD}
 use lib.Seq.{drop-nil}
-use Rattle.csmp.specs.Read.{groupOf}
+use Rattle.decode.specs.Read.{groupOf}
 use Rattle.protobuf.specs.declared.Number.the-variants.{Given, Absent}
 use Rattle.schedule.specs.declared.Point.{Point}
 use Rattle.state.specs.declared.Groups.{Groups}

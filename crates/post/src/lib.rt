@@ -3,7 +3,6 @@ mod value;
 
 use schedule::Point;
 use state::Groups;
-use tlv::Cursor;
 use tlv::Taken;
 pub use value::is_expired;
 ghost use mathlib.Core.Path.{_≡_};
@@ -76,15 +75,15 @@ pub fn look(payload: &[u8], groups: Groups, time: Point) -> Seen
     if 1280 < payload.len() {
         return seal(seen, false);
     }
-    let mut cursor = Cursor { at: 0 };
-    while cursor.at < payload.len() {
-        let Taken::Record(r) = tlv::take_record(payload, cursor.at) else {
+    let mut at = 0;
+    while at < payload.len() {
+        let Taken::Record(r) = tlv::take_record(payload, at) else {
             return seal(seen, false);
         };
         let start = r.start;
         let end = r.end;
         seen = note(seen, r.kind, &payload[start..end], groups, time);
-        cursor = Cursor { at: end };
+        at = end;
     }
     seal(seen, true)
 }
@@ -110,25 +109,25 @@ pub fn judge(seen: Seen, verdict: u8, required: bool) -> Judgement
     ensures { λ r. ⌜ r ≡ judged seen verdict required ⌝ }
 {
     if !seen.readable {
-        return Judgement::Error(128);
+        return Judgement::Error(coap::BAD_REQUEST);
     }
     if seen.records == 0 {
-        return Judgement::Error(128);
+        return Judgement::Error(coap::BAD_REQUEST);
     }
     if 24 < seen.records {
-        return Judgement::Error(128);
+        return Judgement::Error(coap::BAD_REQUEST);
     }
     if badly_signed(seen.signed, verdict, required) {
-        return Judgement::Error(129);
+        return Judgement::Error(coap::UNAUTHORIZED);
     }
     if seen.expired {
-        return Judgement::Error(129);
+        return Judgement::Error(coap::UNAUTHORIZED);
     }
     if value::unmatched(seen.grouped, seen.matched) {
-        return Judgement::Error(131);
+        return Judgement::Error(coap::FORBIDDEN);
     }
     if seen.forbidden {
-        return Judgement::Error(131);
+        return Judgement::Error(coap::FORBIDDEN);
     }
     Judgement::Run
 }

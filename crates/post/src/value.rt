@@ -19,15 +19,15 @@ pub fn is_readable(kind: u64, v: &[u8]) -> bool
     ensures { λ r. ⌜ r ≡ isReadable kind (now (v .entry)) ⌝ }
 {
     match kind {
-        6 => csmp::read_redirect(v).readable,
-        57 => csmp::read_group(v).readable,
-        65 => csmp::read_transfer(v).readable,
-        67 => csmp::read_block(v).readable,
-        68 => csmp::read_load(v).readable,
-        69 => csmp::read_hash(v).readable,
-        70 => csmp::read_hash(v).readable,
-        76 => csmp::read_validity(v).readable,
-        77 => csmp::read_signature(v),
+        6 => decode::read_redirect(v).readable,
+        57 => decode::read_group(v).readable,
+        65 => decode::read_transfer(v).readable,
+        67 => decode::read_block(v).readable,
+        68 => decode::read_load(v).readable,
+        69 => decode::read_hash(v).readable,
+        70 => decode::read_hash(v).readable,
+        76 => decode::read_validity(v).readable,
+        77 => decode::read_signature(v),
         _ => true,
     }
 }
@@ -57,7 +57,7 @@ pub fn is_expired(kind: u64, v: &[u8], time: Point) -> bool
     if kind != 76 {
         return false;
     }
-    let m = csmp::read_validity(v);
+    let m = decode::read_validity(v);
     let from = m.not_before;
     let to = m.not_after;
     buffer::either(is_early(from, time), is_late(to, time))
@@ -91,7 +91,7 @@ pub fn is_match(kind: u64, v: &[u8], groups: Groups) -> bool
     if kind != 57 {
         return false;
     }
-    let m = csmp::read_group(v);
+    let m = decode::read_group(v);
     let given_kind = m.kind;
     let given_id = m.id;
     let Number::Given(k) = given_kind else {

@@ -8,8 +8,8 @@ use borrow.Author.Tests.{eq-eqb, ne-eqb}
 use lib.Dec.{eqb}
 use lib.ListN.{length, drop, length-take, length-drop}
 use Rattle.buffer.specs.Pick.{pick}
-use Rattle.protobuf.specs.Field.{fields, fieldsFrom, bytesOf}
-use Rattle.protobuf.specs.Find.{chosen, lastOf, lastIn, orElse, firstOf, firstFrom, one, countOf, placeOf, bytesIn, movedTo, laterOf, laterIn, lastOfParts, lastInParts}
+use Rattle.protobuf.specs.Field.{fields, bytesOf}
+use Rattle.protobuf.specs.Find.{chosen, lastOf, lastIn, one, countOf, placeOf, bytesIn}
 use Rattle.protobuf.specs.Statements.{Each}
 use Rattle.protobuf.specs.declared.Bytes.the-variants.{At}
 use Rattle.protobuf.specs.declared.Field.{Field}
@@ -32,16 +32,8 @@ module _ (n w : ℕ) (found : Found) (f : Field) where
   unfolding chosen
   chosen-other-number h = rw (ne-eqb (f .number) n h)
 
--- the first field of the number and the wire type, and how many there are: a field counts or is passed over
+-- how many there are: a field counts or is passed over
 module _ (n w : ℕ) (f : Field) (fs : List Field) where
-  pub first-this : {g : Field} → chosen n w Absent f ≡ The g → firstOf n w (f ∷ fs) ≡ The g
-  unfolding firstOf orElse
-  first-this e = rw e
-
-  pub first-other : chosen n w Absent f ≡ Absent → firstOf n w (f ∷ fs) ≡ firstOf n w fs
-  unfolding firstOf orElse
-  first-other e = rw e
-
   pub count-this : {g : Field} → chosen n w Absent f ≡ The g → countOf n w (f ∷ fs) ≡ 1 + countOf n w fs
   unfolding countOf one
   count-this e = rw e
@@ -66,15 +58,6 @@ module _ (P : Field → Type 0) where
   last-holds n w found [] h k = h
   last-holds n w found (f ∷ fs) h k = last-holds n w (chosen n w found f) fs (chosen-holds n w found f h (k .0)) (k .1)
 
-  first-holds : (n w : ℕ) (fs : List Field) → Each P fs → IfFound (firstOf n w fs)
-  unfolding firstOf orElse
-  first-holds n w [] k = tt
-  first-holds n w (f ∷ fs) k = go (chosen n w Absent f) (chosen-holds n w Absent f tt (k .0)) (first-holds n w fs (k .1))
-    where
-      go : (r : Found) → IfFound r → IfFound (firstOf n w fs) → IfFound (orElse r (firstOf n w fs))
-      go (The g) h ih = h
-      go Absent h ih = ih
-
 -- a field's bytes lie in the message
 abbrev Lies : List ℕ → Field → Type 0
 Lies s f = (f .start ≤ f .end) × (f .end ≤ length s)
@@ -82,11 +65,6 @@ Lies s f = (f .start ≤ f .end) × (f .end ≤ length s)
 -- so what is found lies in the message
 pub chosen-within : (s : List ℕ) (n w : ℕ) (f p : Field) → Lies s f → chosen n w Absent f ≡ The p → Lies s p
 chosen-within s n w f p h e = subst (IfFound (Lies s)) e (chosen-holds (Lies s) n w Absent f tt h)
-
-pub first-within : (s : List ℕ) (at n w : ℕ) (f : Field) → firstFrom s at n w ≡ The f → Follows s at f
-unfolding firstFrom
-first-within s at n w f e =
-    subst (IfFound (Follows s at)) e (first-holds (Follows s at) n w (fieldsFrom s at .items) (fields-follow s at))
 
 pub last-within : (s : List ℕ) (n w : ℕ) (f : Field) → lastIn s n w ≡ The f → Lies s f
 unfolding lastIn
@@ -114,28 +92,3 @@ part-within s n w p f h e =
     let k = length-take (p .end - p .start) (drop (p .start) s) in
     let m = length-drop (p .start) s in
     omega arith
-
-module _ (s : List ℕ) (part n w : ℕ) where
-  moved-lies : (p : Field) (found r : Found) → IfFound (Lies s) found → Lies s p → lastIn (bytesOf s p) n w ≡ r
-      → IfFound (Lies s) (movedTo (p .start) found r)
-  unfolding movedTo
-  moved-lies p found (The f) h k e = let b = part-within s n w p f k e in omega arith
-  moved-lies p found Absent h k e = h
-
-  later-lies : (found : Found) (f : Field) → IfFound (Lies s) found → Lies s f → IfFound (Lies s) (laterIn s part n w found f)
-  unfolding laterIn laterOf
-  later-lies found f h k = go (chosen part 2 Absent f) (chosen-holds (Lies s) part 2 Absent f tt k)
-    where
-      go : (r : Found) → IfFound (Lies s) r → IfFound (Lies s) (laterOf s n w found r)
-      go (The p) g = moved-lies p found (lastIn (bytesOf s p) n w) h g refl
-      go Absent g = h
-
-  parts-lie : (found : Found) (fs : List Field) → IfFound (Lies s) found → Each (Follows s 0) fs
-      → IfFound (Lies s) (lastOfParts s part n w found fs)
-  unfolding lastOfParts
-  parts-lie found [] h k = h
-  parts-lie found (f ∷ fs) h k = parts-lie (laterIn s part n w found f) fs (later-lies found f h (k .0 .1, k .0 .2)) (k .1)
-
-  pub parts-within : (f : Field) → lastInParts s part n w ≡ The f → Lies s f
-  unfolding lastInParts
-  parts-within f e = subst (IfFound (Lies s)) e (parts-lie Absent (fields s .items) tt (fields-follow s 0))

@@ -1,10 +1,12 @@
 -- Which field counts, document 01, "Records and fields": known ones with another wire type are skipped, the last one wins, hwInfo parts merge.
-use Prim.Native.Nat.{ℕ, _+_, _%_, _^_}
+use Prim.Native.Nat.{ℕ, _+_, _-_, _%_, _^_}
 use mathlib.Core.List.{List, [], _∷_}
-use mathlib.Core.Bool.{not}
+use mathlib.Core.Bool.{Bool, not}
+use lib.ListN.{take, drop}
 use lib.Dec.{eqb}
 use Rattle.buffer.specs.Pick.{pick}
-use Rattle.protobuf.specs.Field.{fields, fieldsFrom, bytesOf}
+use Rattle.buffer.specs.Same.{sameBytes}
+use Rattle.protobuf.specs.Field.{fields, bytesOf}
 use Rattle.protobuf.specs.declared.Field.{Field}
 use Rattle.protobuf.specs.declared.Found.{Found}
 use Rattle.protobuf.specs.declared.Found.the-variants.{Field as The, Absent}
@@ -26,18 +28,6 @@ lastOf n w found (f ∷ fs) = lastOf n w (chosen n w found f) fs
 
 unfoldable pub lastIn : List ℕ → ℕ → ℕ → Found
 lastIn s n w = lastOf n w Absent (fields s .items)
-
--- the first one
-unfoldable pub orElse : Found → Found → Found
-orElse (The f) other = The f
-orElse Absent other = other
-
-unfoldable pub firstOf : ℕ → ℕ → List Field → Found
-firstOf n w [] = Absent
-firstOf n w (f ∷ fs) = orElse (chosen n w Absent f) (firstOf n w fs)
-
-unfoldable pub firstFrom : List ℕ → ℕ → ℕ → ℕ → Found
-firstFrom s at n w = firstOf n w (fieldsFrom s at .items)
 
 -- how many
 unfoldable pub one : Found → ℕ
@@ -74,6 +64,11 @@ placeOf Absent = NoBytes
 
 unfoldable pub bytesIn : List ℕ → ℕ → Bytes
 bytesIn s n = placeOf (lastIn s n 2)
+
+-- whether the bytes of a field are a text, with an answer for an absent field
+unfoldable pub isText : List ℕ → List ℕ → Bool → Bytes → Bool
+isText text s absent (At start stop) = sameBytes text (take (stop - start) (drop start s))
+isText text s absent NoBytes = absent
 
 -- a field of a part, by its place in the whole message
 unfoldable pub movedTo : ℕ → Found → Found → Found

@@ -8,7 +8,7 @@ use crate::Step;
 ghost use mathlib.Core.Path.{_≡_};
 ghost use Prim.Native.Nat.{_≤_};
 ghost use lib.ListN.{length};
-ghost use Rattle.protobuf.specs.Find.{chosen, lastIn, firstFrom, countIn, numberIn, flagIn, placeOf, bytesIn, laterIn, lastInParts, bytesInParts};
+ghost use Rattle.protobuf.specs.Find.{chosen, lastIn, countIn, numberIn, flagIn, placeOf, bytesIn, isText, laterIn, lastInParts, bytesInParts};
 
 // The later of a field found before and this one, where this one has the number and the wire type.
 fn choose(found: Found, f: Field, number: u32, wire: u8) -> Found
@@ -36,23 +36,6 @@ pub fn last(s: &[u8], number: u32, wire: u8) -> Found
         at = f.end;
     }
     found
-}
-
-// The first field of that number and wire type from `from` on: a walk over a repeated field goes on at its end.
-pub fn first(s: &[u8], from: usize, number: u32, wire: u8) -> Found
-    ensures { λ r. ⌜ r ≡ firstFrom (now (s .entry)) from number wire ⌝ }
-{
-    let mut at = from;
-    while at < s.len() {
-        let Step::Field(f) = crate::field_at(s, at) else {
-            return Found::Absent;
-        };
-        if let Found::Field(g) = choose(Found::Absent, f, number, wire) {
-            return Found::Field(g);
-        }
-        at = f.end;
-    }
-    Found::Absent
 }
 
 // How many fields of that number and wire type there are.
@@ -110,7 +93,17 @@ pub fn last_bytes(s: &[u8], number: u32) -> Bytes
     place(last(s, number, 2))
 }
 
-// The same in one field: where it is a part, what it has of that number and wire type is later than what was found before.
+// Whether the bytes of a field are a text; `absent` is the answer where there is no such field.
+pub fn is_text(text: &[u8], s: &[u8], place: Bytes, absent: bool) -> bool
+    ensures { λ r. ⌜ r ≡ isText (now (text .entry)) (now (s .entry)) absent place ⌝ }
+{
+    let Bytes::At(start, end) = place else {
+        return absent;
+    };
+    buffer::same(text, buffer::part(s, start, end))
+}
+
+// What counts after one field: where it is a part, what it has of that number and wire type is later than what was found before.
 fn last_in_part(s: &[u8], f: Field, part: u32, number: u32, wire: u8, found: Found) -> Found
     requires { ⌜ (f .start ≤ f .end) × (f .end ≤ length (now s)) ⌝ }
     ensures { λ r. ⌜ r ≡ laterIn (now (s .entry)) part number wire found f ⌝ }

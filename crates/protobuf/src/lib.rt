@@ -5,11 +5,9 @@ mod nesting;
 mod write;
 
 pub use find::count;
-pub use find::first;
-pub use find::last;
+pub use find::is_text;
 pub use find::last_bytes;
 pub use find::last_flag;
-pub use find::last_in_parts;
 pub use find::last_number;
 pub use find::part_bytes;
 pub use nesting::readable;

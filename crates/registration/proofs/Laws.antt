@@ -1,6 +1,6 @@
 -- Laws of a redirect: what each test of the code says of the definitions.
 use Prim.Native.Nat.{ℕ, _-_, _≤_}
-use mathlib.Core.Path.{_≡_, refl, ap}
+use mathlib.Core.Path.{_≡_, refl}
 use mathlib.Core.List.{List, [], _∷_}
 use mathlib.Core.Bool.{Bool, true, false, not}
 use mathlib.Core.Option.{some}
@@ -8,8 +8,8 @@ use native.Mathlib.Omega.{arith}
 use borrow.Author.Tests.{eqb-true, eqb-false, eq-eqb, ne-eqb}
 use lib.Dec.{eqb}
 use lib.ListN.{length, take, drop, length-take, length-drop}
-use Rattle.csmp.specs.Read.{redirectOf}
-use Rattle.csmp.specs.declared.Redirect.{Redirect}
+use Rattle.decode.specs.Read.{redirectOf}
+use Rattle.decode.specs.declared.Redirect.{Redirect}
 use Rattle.protobuf.specs.Find.{bytesIn}
 use Rattle.protobuf.specs.declared.Bytes.the-variants.{At, Absent}
 use Rattle.protobuf.proofs.FindLaws.{bytes-within}

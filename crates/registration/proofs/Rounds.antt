@@ -1,6 +1,6 @@
 -- Laws of own datagrams: the message id, and what a round leaves.
 use Prim.Native.Nat.{ℕ, _+_, _<_}
-use mathlib.Core.Path.{_≡_, refl}
+use mathlib.Core.Path.{_≡_}
 use mathlib.Core.Bool.{true}
 use native.Mathlib.Omega.{arith}
 use Rattle.schedule.specs.declared.Length.{Length}

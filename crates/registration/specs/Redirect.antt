@@ -3,7 +3,7 @@ use Prim.Native.Nat.{ℕ}
 use mathlib.Core.List.{List, [], _∷_}
 use mathlib.Core.Bool.{Bool, true, false}
 use mathlib.Core.Option.{Option, none, some}
-use Rattle.csmp.specs.Read.{redirectOf}
+use Rattle.decode.specs.Read.{redirectOf}
 use Rattle.protobuf.specs.Statements.{bytesGiven}
 use Rattle.protobuf.specs.declared.Flag.{Flag}
 use Rattle.protobuf.specs.declared.Flag.the-variants.{Given, Absent}

@@ -11,7 +11,6 @@ use state::Registration;
 use state::Url;
 pub use wait::backoff;
 pub use wait::first_wait;
-pub use wait::next_interval;
 pub use wait::rest_of;
 ghost use mathlib.Core.Path.{_≡_};
 ghost use Rattle.registration.specs.Redirect.{restarted, isSet, followed, urlIn, redirected};
@@ -51,7 +50,7 @@ fn is_set(flag: Flag) -> bool
 pub fn is_followed(v: &[u8]) -> bool
     ensures { λ r. ⌜ r ≡ followed (urlIn (now (v .entry))) ⌝ }
 {
-    let r = csmp::read_redirect(v);
+    let r = decode::read_redirect(v);
     let place = r.url;
     let Bytes::At(start, end) = place else {
         return false;
@@ -63,7 +62,7 @@ pub fn is_followed(v: &[u8]) -> bool
 pub fn redirect(device: Device, registration: Registration, v: &[u8]) -> Registration
     ensures { λ r. ⌜ r ≡ redirected device registration (now (v .entry)) ⌝ }
 {
-    let r = csmp::read_redirect(v);
+    let r = decode::read_redirect(v);
     let place = r.url;
     let flag = r.immediate;
     let Bytes::At(start, end) = place else {

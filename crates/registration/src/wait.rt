@@ -3,7 +3,6 @@ use schedule::Length;
 use state::Device;
 use state::Registration;
 ghost use mathlib.Core.Path.{_≡_};
-ghost use Prim.Native.Nat.{_≤_};
 ghost use Rattle.registration.specs.Backoff.{firstWait, halfUp, backoffOf, restOf, doubled, advancedOf};
 
 // The wait before the first round: at most the smallest interval, none where a redirect marked immediate started registration.

@@ -10,11 +10,11 @@ use lib.ListN.{length, replicate}
 use lib.Seq.{length-sets}
 use Rattle.buffer.specs.Pick.{pick}
 use Rattle.buffer.specs.Same.{sameBytes}
-use Rattle.csmp.specs.Read.{loadOf, hashOf, transferOf, momentOf}
-use Rattle.csmp.specs.Write.{momentNumber}
+use Rattle.decode.specs.Read.{loadOf, hashOf, transferOf, momentOf}
+use Rattle.encode.specs.Write.{momentNumber}
 use Rattle.csmp.specs.declared.Image.{Image}
-use Rattle.csmp.specs.declared.Transfer.{Transfer}
-use Rattle.csmp.proofs.WriteLaws.{timeField, word-most, response-record-most}
+use Rattle.decode.specs.declared.Transfer.{Transfer}
+use Rattle.encode.proofs.WriteLaws.{timeField, word-most, response-record-most}
 use Rattle.firmware.specs.Load.{isOpen, isBackup, isPending, openFault, sourceFault, pendingFault, loads, loadsAt, loadAnswered, cancels, cancelAnswered, backs, backupAnswered}
 use Rattle.firmware.specs.Open.{isWhole, isOurs, faultOf, replaced, opens, openIf, transferAnswered}
 use Rattle.firmware.specs.Place.{isHash, bytesAt, hashAt, echoed}

@@ -8,6 +8,7 @@ use borrow.Author.Tests.{leb-true}
 use lib.Dec.{eqb, leb}
 use lib.ListN.{length}
 use Rattle.buffer.specs.Pick.{pick}
+use Rattle.buffer.proofs.Tests.{both}
 use Rattle.post.specs.Judge.{noted, seenOf, nothingSeen, sealed, lookedAt, judged}
 use Rattle.post.specs.Value.{isReadable}
 use Rattle.post.specs.declared.Judgement.{Judgement}
@@ -23,14 +24,6 @@ use Rattle.run.specs.Run.{World, worldOf, RanBy}
 use Rattle.run.specs.declared.Posted.{Posted}
 use Rattle.run.specs.declared.Ran.{Ran}
 
-and-left : (a b : Bool) → (a && b) ≡ true → a ≡ true
-and-left true b h = refl
-and-left false b h = h
-
-and-right : (a b : Bool) → (a && b) ≡ true → b ≡ true
-and-right true b h = h
-and-right false b h = let z : _≡_ {A = ℕ} 0 1 = cc in absurd (omega arith)
-
 -- what is seen of records
 module _ (g : Groups) (time : Point) where
   seen-count : (s : Seen) (ts : List Tlv) → seenOf g time s ts .records ≡ s .records + length ts
@@ -45,7 +38,8 @@ module _ (g : Groups) (time : Point) where
   seen-each s (t ∷ ts) h =
       let r = seen-each (noted g time s (t .kind) (t .value)) ts h in
       let k = isReadable (t .kind) (t .value) in
-      (and-left (s .readable) k (r .0), (and-right (s .readable) k (r .0), r .1))
+      let b = both (s .readable) k (r .0) in
+      (b .0, (b .1, r .1))
 
   looked-seen : (p : List ℕ) → lookedAt g time p .readable ≡ true
       → (lookedAt g time p .records ≡ length (records p)) × Each (λ (t : Tlv). isReadable (t .kind) (t .value) ≡ true) (records p)
@@ -57,7 +51,7 @@ module _ (g : Groups) (time : Point) where
           × Each (λ (t : Tlv). isReadable (t .kind) (t .value) ≡ true) (records p)
       go true h =
           let s = seenOf g time nothingSeen (records p) in
-          (omega (arith, seen-count nothingSeen (records p)), seen-each nothingSeen (records p) (and-right (readable p) (s .readable) h) .1)
+          (omega (arith, seen-count nothingSeen (records p)), seen-each nothingSeen (records p) (both (readable p) (s .readable) h .1) .1)
       go false h = let z : _≡_ {A = ℕ} 0 1 = cc in absurd (omega arith)
 
 -- what runs can be read and has at most 24 records
@@ -67,8 +61,8 @@ judged-run s verdict required h =
     let a = leb (s .records) 24 in
     let b = not (eqb (s .records) 0) && a in
     let e = go (s .readable && b) _ h in
-    let f = and-right (not (eqb (s .records) 0)) a (and-right (s .readable) b e) in
-    (and-left (s .readable) b e, leb-true (s .records) 24 f)
+    let x = both (s .readable) b e in
+    (x .0, leb-true (s .records) 24 (both (not (eqb (s .records) 0)) a (x .1) .1))
   where
     go : (t : Bool) (x : Judgement) → pick t x (Error 128) ≡ Run → t ≡ true
     go true x q = refl
@@ -93,14 +87,15 @@ module _ (d : Device) (g : Groups) (p : List ℕ) (time : Point) (verdict : ℕ)
   unfolding judgedAt
   posted-few h = run-few g time p verdict (d .«signed_posts») h
 
-  pub posted-error : (first : Ran) (flash out : List ℕ) {code : ℕ} → judgedAt d g p time verdict ≡ Error code → first .end ≤ length out
-      → PostedBy (posted d g (worldOf first flash) p time verdict) out (first .end) (record { code = code; ran = first }) flash out
+  pub posted-error : (first : Ran) (flash out : List ℕ) {code : ℕ} → judgedAt d g p time verdict ≡ Error code → first .end ≡ 0
+      → PostedBy (posted d g (worldOf first flash) p time verdict) out (record { code = code; ran = first }) flash out
   unfolding posted postedAs
-  posted-error first flash out j h = rw j (record { code = refl; world = refl; bytes = refl; position = omega arith; inside = h })
+  posted-error first flash out j h = rw j (record { code = refl; world = refl; bytes = refl; position = omega arith; inside = omega arith; small = omega arith })
 
-  pub posted-run : (w : World) (out : List ℕ) (at : ℕ) {next : Ran} {flash left : List ℕ} {r : Posted} → judgedAt d g p time verdict ≡ Run
-      → RanBy d w (records p) out at next flash left → r ≡ record { code = 65; ran = next }
-      → PostedBy (posted d g w p time verdict) out at r flash left
+  pub posted-run : (w : World) (out : List ℕ) {next : Ran} {flash left : List ℕ} {r : Posted} → judgedAt d g p time verdict ≡ Run
+      → length out ≡ 1273 → RanBy d w (records p) out 0 next flash left → r ≡ record { code = 65; ran = next }
+      → PostedBy (posted d g w p time verdict) out r flash left
   unfolding posted postedAs
-  posted-run w out at j x e =
-      rw (j, e) (record { code = refl; world = x .world; bytes = x .bytes; position = x .position; inside = x .inside })
+  posted-run w out j l x e =
+      let i = x .inside in
+      rw (j, e) (record { code = refl; world = x .world; bytes = x .bytes; position = omega (arith, x .position); inside = i; small = omega arith })

@@ -7,13 +7,12 @@ use state::Device;
 use state::Images;
 use state::Registration;
 use state::State;
-use tlv::Cursor;
 use tlv::Taken;
 ghost use mathlib.Core.Path.{_≡_};
 ghost use Prim.Native.Nat.{_+_, _*_, _≤_};
 ghost use lib.ListN.{length};
 ghost use Rattle.tlv.specs.Record.{records};
-ghost use Rattle.run.specs.Run.{World, worldOf, RanBy};
+ghost use Rattle.run.specs.Run.{worldOf, RanBy};
 ghost use Rattle.run.specs.Post.{PostedBy, posted};
 
 // What running records changes beside the image buffer, and where their responses end.
@@ -29,37 +28,35 @@ pub struct Posted {
     pub ran: Ran,
 }
 
-// Runs the records of a payload one by one, and appends their responses at `at`.
+// Runs the records of a payload one by one, and appends their responses.
 fn run(device: Device, first: Ran, flash: &mut [u8], payload: &[u8], out: &mut [u8]) -> Ran
     requires { ⌜ first .end + 48 * length (records (now payload)) ≤ length (now out) ⌝ }
     ensures { λ r. ⌜ RanBy device (worldOf first (now (flash .entry))) (records (now (payload .entry))) (now (out .entry)) (first .end) r (now (flash .exit)) (now (out .exit)) ⌝ }
 {
     let mut ran = first;
-    let mut cursor = Cursor { at: 0 };
-    while cursor.at < payload.len() {
-        let Taken::Record(r) = tlv::take_record(payload, cursor.at) else {
+    let mut at = 0;
+    while at < payload.len() {
+        let Taken::Record(r) = tlv::take_record(payload, at) else {
             return ran;
         };
         let start = r.start;
         let end = r.end;
         ran = record::run_record(device, ran, flash, r.kind, &payload[start..end], out);
-        cursor = Cursor { at: end };
+        at = end;
     }
     ran
 }
 
-// Steps e to j. Responses are appended at `at`; on an error nothing changes.
+// Steps e to j. The responses stand at the front of the output; on an error nothing changes.
 pub fn post(
     state: State,
     flash: &mut [u8],
     payload: &[u8],
     time: Point,
     verdict: u8,
-    out: &mut [u8],
-    at: usize,
+    out: &mut [u8; 1273],
 ) -> Posted
-    requires { ⌜ at + 1152 ≤ length (now out) ⌝ }
-    ensures { λ r. ⌜ PostedBy (posted (state .device) (state .assigned .groups) (record { images = state .images; registration = state .registration; flash = now (flash .entry) }) (now (payload .entry)) time verdict) (now (out .entry)) at r (now (flash .exit)) (now (out .exit)) ⌝ }
+    ensures { λ r. ⌜ PostedBy (posted (state .device) (state .assigned .groups) (record { images = state .images; registration = state .registration; flash = now (flash .entry) }) (now (payload .entry)) time verdict) (now (out .entry)) r (now (flash .exit)) (now (out .exit)) ⌝ }
 {
     let device = state.device;
     let groups = state.assigned.groups;
@@ -68,7 +65,7 @@ pub fn post(
     let first = Ran {
         images,
         registration,
-        end: at,
+        end: 0,
     };
     let seen = post::look(payload, groups, time);
     match post::judge(seen, verdict, device.signed_posts) {
@@ -80,5 +77,8 @@ pub fn post(
 fn created(ran: Ran) -> Posted
     ensures { λ r. ⌜ r ≡ record { code = 65; ran = ran } ⌝ }
 {
-    Posted { code: 65, ran }
+    Posted {
+        code: coap::CREATED,
+        ran,
+    }
 }

@@ -12,7 +12,9 @@ use Rattle.schedule.specs.declared.Length.{Length}
 use Rattle.schedule.specs.declared.Interval.the-variants.{Absent}
 use Rattle.state.specs.declared.HwId.{HwId}
 use Rattle.state.specs.declared.Url.{Url}
+use Rattle.state.specs.declared.Groups.{Groups}
 use Rattle.state.specs.declared.Images.{Images}
+use Rattle.state.specs.declared.Pending.{Pending}
 use Rattle.state.specs.declared.Assigned.{Assigned}
 use Rattle.state.specs.declared.Registration.{Registration}
 use Rattle.state.specs.declared.State.{State}
@@ -41,20 +43,27 @@ noImage =
       bitmap = replicate 128 0;
     }
 
+-- no load pending, no groups
+abbrev pub noPending : Pending
+noPending = record { is = false; hash = replicate 32 0; time = record { 0 = 0 } }
+
+abbrev pub noGroups : Groups
+noGroups = record { list = replicate 8 (record { kind = 0; id = 0 }); count = 0 }
+
 abbrev pub onlyRunning : List ℕ → Images
 onlyRunning hash =
     record {
       running = hash;
       «open» = false;
       image = noImage;
-      pending = record { is = false; hash = replicate 32 0; time = record { 0 = 0 } };
+      pending = noPending;
       backup = record { given = false; bytes = replicate 32 0 };
     }
 
 abbrev pub noneAssigned : Assigned
 noneAssigned =
     record {
-      groups = record { list = replicate 8 (record { kind = 0; id = 0 }); count = 0 };
+      groups = noGroups;
       «in_session» = false;
       session = record { bytes = replicate 64 0; len = 0 };
       reporting = false;

@@ -18,7 +18,7 @@ use schedule::Interval;
 use schedule::Length;
 use schedule::Point;
 ghost use mathlib.Core.Path.{_≡_};
-ghost use Rattle.state.specs.Setup.{hwIdOf, urlOf, hashOf, noImage, onlyRunning, noneAssigned, startingAt, within, validTexts, validSettings, firstState, blankState, refusedSetup, setupOf};
+ghost use Rattle.state.specs.Setup.{hwIdOf, urlOf, hashOf, noImage, noPending, noGroups, onlyRunning, noneAssigned, startingAt, within, validTexts, validSettings, firstState, blankState, refusedSetup, setupOf};
 
 // The numbers and switches of a setup.
 pub struct Settings {
@@ -88,6 +88,26 @@ fn no_image() -> Image
     }
 }
 
+// No load.
+pub fn no_pending() -> Pending
+    ensures { λ r. ⌜ r ≡ noPending ⌝ }
+{
+    Pending {
+        is: false,
+        hash: [0; 32],
+        time: Point(0),
+    }
+}
+
+pub fn no_groups() -> Groups
+    ensures { λ r. ⌜ r ≡ noGroups ⌝ }
+{
+    Groups {
+        list: [Pair { kind: 0, id: 0 }; 8],
+        count: 0,
+    }
+}
+
 // Nothing but the running image.
 fn only_running(hash: [u8; 32]) -> Images
     ensures { λ r. ⌜ r ≡ onlyRunning hash ⌝ }
@@ -96,11 +116,7 @@ fn only_running(hash: [u8; 32]) -> Images
         running: hash,
         open: false,
         image: no_image(),
-        pending: Pending {
-            is: false,
-            hash: [0; 32],
-            time: Point(0),
-        },
+        pending: no_pending(),
         backup: Hash {
             given: false,
             bytes: [0; 32],
@@ -112,10 +128,7 @@ fn none_assigned() -> Assigned
     ensures { λ r. ⌜ r ≡ noneAssigned ⌝ }
 {
     Assigned {
-        groups: Groups {
-            list: [Pair { kind: 0, id: 0 }; 8],
-            count: 0,
-        },
+        groups: no_groups(),
         in_session: false,
         session: SessionId {
             bytes: [0; 64],

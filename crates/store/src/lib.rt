@@ -1,5 +1,4 @@
 // The host's store: records that the agent shows and sends but does not own. It is checked on every call that has one.
-use tlv::Cursor;
 use tlv::Taken;
 ghost use mathlib.Core.Path.{_≡_};
 ghost use Rattle.store.specs.Store.{reserved, noted, fine, acceptable};
@@ -13,7 +12,7 @@ pub struct Seen {
 }
 
 // A type that the host may not store: TlvIndex, and the records that are the agent's own.
-pub fn is_reserved(kind: u64) -> bool
+fn is_reserved(kind: u64) -> bool
     ensures { λ r. ⌜ r ≡ reserved kind ⌝ }
 {
     match kind {
@@ -75,13 +74,13 @@ pub fn is_acceptable(s: &[u8]) -> bool
         ids: 0,
         reserved: false,
     };
-    let mut cursor = Cursor { at: 0 };
-    while cursor.at < s.len() {
-        let Taken::Record(r) = tlv::take_record(s, cursor.at) else {
+    let mut at = 0;
+    while at < s.len() {
+        let Taken::Record(r) = tlv::take_record(s, at) else {
             return false;
         };
         seen = note(seen, r.kind);
-        cursor = Cursor { at: r.end };
+        at = r.end;
     }
     is_fine(seen)
 }

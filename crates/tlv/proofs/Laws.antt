@@ -1,13 +1,10 @@
--- Laws of a record, of the walk over records, and of what is found and counted on it, one step each.
-use Prim.Native.Nat.{ℕ, _+_, _≤_, _<_}
+-- Laws of a record and of the walk over records, one step each.
+use Prim.Native.Nat.{ℕ, _≤_, _<_}
 use mathlib.Core.Path.{_≡_, refl, ap}
 use mathlib.Core.List.{List}
 use mathlib.Core.Bool.{true, false}
-use native.Mathlib.Nat.{zero-add}
 use native.Mathlib.Omega.{arith}
-use borrow.Author.Tests.{eq-eqb, ne-eqb}
 use lib.ListN.{length}
-use Rattle.buffer.specs.Pick.{pick}
 use Rattle.buffer.specs.Walk.{item, ended, joined}
 use Rattle.buffer.proofs.Walks.{Advances, walk-end, walk-more, walk-unreadable}
 use Rattle.varint.specs.Varint.{varintAt, delimitedAt}
@@ -16,13 +13,10 @@ use Rattle.varint.specs.declared.Delimited.the-variants.{At, Unreadable as Cut}
 use Rattle.varint.specs.declared.Varint.{Varint}
 use Rattle.varint.specs.declared.Varint.the-variants.{Number, Unreadable as Unspelt}
 use Rattle.varint.proofs.Theorems.{inside}
-use Rattle.tlv.specs.Record.{ofValue, ofKind, recordAt, stepped, recordStep, recordsFrom, counted, firstOf, foundFrom}
+use Rattle.tlv.specs.Record.{ofValue, ofKind, recordAt, stepped, recordStep, recordsFrom}
 use Rattle.tlv.specs.declared.Record.{Record}
 use Rattle.tlv.specs.declared.Taken.{Taken}
 use Rattle.tlv.specs.declared.Taken.the-variants.{Record as Whole, Unreadable}
-use Rattle.tlv.specs.declared.Total.{Total}
-use Rattle.tlv.specs.declared.Total.the-variants.{Records, Unreadable as Uncounted}
-use Rattle.tlv.specs.declared.Found.the-variants.{Record as First, Nothing}
 use Rattle.varint.proofs.Stretched.{delimited-inside}
 
 -- a record that is taken lies in the slice, after the position
@@ -70,43 +64,3 @@ records-more s at r e =
 pub records-unreadable : (s : List ℕ) (at : ℕ) → at < length s → recordAt s at ≡ Unreadable → recordsFrom s at ≡ ended false
 unfolding recordsFrom recordStep
 records-unreadable s at h e = walk-unreadable recordStep s at h (ap stepped e)
-
--- the first of a type
-pub found-end : (s : List ℕ) (at kind : ℕ) → length s ≤ at → foundFrom s at kind ≡ Nothing
-unfolding foundFrom firstOf
-found-end s at kind h = rw (records-end s at h)
-
-pub found-unreadable : (s : List ℕ) (at kind : ℕ) → at < length s → recordAt s at ≡ Unreadable → foundFrom s at kind ≡ Nothing
-unfolding foundFrom firstOf
-found-unreadable s at kind h e = rw (records-unreadable s at h e)
-
-pub found-here : (s : List ℕ) (at kind : ℕ) (r : Record) → recordAt s at ≡ Whole r → r .kind ≡ kind → foundFrom s at kind ≡ First r
-unfolding foundFrom firstOf
-found-here s at kind r e h = rw (records-more s at r e, eq-eqb (r .kind) kind h)
-
-pub found-next : (s : List ℕ) (at kind : ℕ) (r : Record) → recordAt s at ≡ Whole r → (r .kind ≡ kind → ⊥)
-    → foundFrom s at kind ≡ foundFrom s (r .end) kind
-unfolding foundFrom firstOf
-found-next s at kind r e h = rw (records-more s at r e, ne-eqb (r .kind) kind h)
-
--- the count, where n records stand before a position
-unfoldable pub countedFrom : List ℕ → ℕ → ℕ → Total
-countedFrom s at n = pick (recordsFrom s at .whole) (Records (n + length (recordsFrom s at .items))) Uncounted
-
-pub counted-start : (s : List ℕ) → counted s ≡ countedFrom s 0 0
-unfolding counted countedFrom
-counted-start s = rw zero-add
-
-pub counted-end : (s : List ℕ) (at n : ℕ) → length s ≤ at → countedFrom s at n ≡ Records n
-unfolding countedFrom
-counted-end s at n h = rw (records-end s at h) (ap Records (omega arith))
-
-pub counted-unreadable : (s : List ℕ) (at n : ℕ) → at < length s → recordAt s at ≡ Unreadable → countedFrom s at n ≡ Uncounted
-unfolding countedFrom
-counted-unreadable s at n h e = rw (records-unreadable s at h e)
-
-pub counted-next : (s : List ℕ) (at n : ℕ) (r : Record) → recordAt s at ≡ Whole r → countedFrom s at n ≡ countedFrom s (r .end) (n + 1)
-unfolding countedFrom
-counted-next s at n r e =
-    let w = recordsFrom s (r .end) in
-    rw (records-more s at r e) (ap (λ (k : ℕ). pick (w .whole) (Records k) Uncounted) (omega arith))

@@ -2,11 +2,9 @@
 use Prim.Native.Nat.{ℕ, _-_}
 use mathlib.Core.List.{List, [], _∷_, _++_, map}
 use mathlib.Core.Bool.{Bool}
-use lib.ListN.{length, take, drop}
-use lib.Dec.{eqb}
-use Rattle.buffer.specs.Pick.{pick}
+use lib.ListN.{take, drop}
 use Rattle.buffer.specs.Walk.{Step, item, unreadable, Walked, walk}
-use Rattle.varint.specs.Varint.{varintAt, delimitedAt, two, delimited}
+use Rattle.varint.specs.Varint.{varintAt, delimitedAt, delimited}
 use Rattle.varint.specs.declared.Delimited.{Delimited}
 use Rattle.varint.specs.declared.Delimited.the-variants.{At, Unreadable as Cut}
 use Rattle.varint.specs.declared.Varint.{Varint}
@@ -14,10 +12,6 @@ use Rattle.varint.specs.declared.Varint.the-variants.{Number, Unreadable as Uns
 use Rattle.tlv.specs.declared.Record.{Record}
 use Rattle.tlv.specs.declared.Taken.{Taken}
 use Rattle.tlv.specs.declared.Taken.the-variants.{Record as Whole, Unreadable}
-use Rattle.tlv.specs.declared.Total.{Total}
-use Rattle.tlv.specs.declared.Total.the-variants.{Records, Unreadable as Uncounted}
-use Rattle.tlv.specs.declared.Found.{Found}
-use Rattle.tlv.specs.declared.Found.the-variants.{Record as First, Nothing}
 
 -- the record of a type, where its value stands
 unfoldable pub ofValue : ℕ → Delimited → Taken
@@ -45,21 +39,6 @@ recordStep s at = stepped (recordAt s at)
 unfoldable pub recordsFrom : List ℕ → ℕ → Walked Record
 recordsFrom s at = walk recordStep s at
 
--- how many records a payload has, all of them readable
-abbrev pub countedOf : Walked Record → Total
-countedOf w = pick (w .whole) (Records (length (w .items))) Uncounted
-
-unfoldable pub counted : List ℕ → Total
-counted s = countedOf (recordsFrom s 0)
-
--- the first of a type
-unfoldable pub firstOf : ℕ → List Record → Found
-firstOf kind [] = Nothing
-firstOf kind (r ∷ rs) = pick (eqb (r .kind) kind) (First r) (firstOf kind rs)
-
-unfoldable pub foundFrom : List ℕ → ℕ → ℕ → Found
-foundFrom s at kind = firstOf kind (recordsFrom s at .items)
-
 -- a record by its value, wherever it stood
 pub record Tlv : Type 0 where
   pub kind : ℕ
@@ -77,9 +56,6 @@ unfoldable pub readable : List ℕ → Bool
 readable s = recordsFrom s 0 .whole
 
 -- writing: shortest varints
-abbrev pub recordHead : ℕ → ℕ → List ℕ
-recordHead kind len = two kind len
-
 abbrev pub recordBytes : ℕ → List ℕ → List ℕ
 recordBytes kind value = delimited kind value
 

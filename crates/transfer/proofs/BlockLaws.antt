@@ -8,16 +8,15 @@ use lib.Dec.{eqb}
 use lib.ListN.{length, take, drop}
 use lib.Seq.{sets}
 use Rattle.buffer.specs.Pick.{pick}
-use Rattle.csmp.specs.Read.{blockOf}
-use Rattle.csmp.specs.declared.Block.{Block}
+use Rattle.decode.specs.Read.{blockOf}
+use Rattle.decode.specs.declared.Block.{Block}
 use Rattle.csmp.specs.declared.Image.{Image}
-use Rattle.protobuf.specs.Find.{bytesIn}
-use Rattle.protobuf.specs.declared.Bytes.{Bytes}
+use Rattle.protobuf.specs.Find.{isText}
 use Rattle.protobuf.specs.declared.Bytes.the-variants.{At, Absent}
 use Rattle.protobuf.specs.declared.Number.the-variants.{Given, Absent as NoNumber}
 use Rattle.protobuf.proofs.FindLaws.{bytes-within}
 use Rattle.transfer.specs.Bitmap.{held, marked, withBitmap}
-use Rattle.transfer.specs.Block.{Inside, isHash, fitsAt, Flash, putBlock, offered, takeBlock, Left}
+use Rattle.transfer.specs.Block.{fitsAt, Flash, putBlock, offered, takeBlock, Left}
 use Rattle.transfer.specs.Blocks.{blocks, blockLength}
 
 -- a number beyond the blocks does not fit, and another fits by its length
@@ -60,36 +59,27 @@ module _ (i : Image) (bs : List ℕ) (n : ℕ) (d : List ℕ) where
       → after ≡ sets bs (n * i .«block_size») d → Left (putBlock i bs n d) (withBitmap i map) after
   left-new h g e f = left-by (put-new h g ∙ rw (e, f))
 
--- bytes that are found lie in the value
-inside : (v : List ℕ) (n : ℕ) (p : Bytes) → bytesIn v n ≡ p → Inside v p
-inside v n (At a e) h = bytes-within v n a e h
-inside v n Absent h = tt
-
 module _ (v : List ℕ) (b : Block) (e : b ≡ blockOf v) where
-  pub hash-inside : Inside v (b .hash)
-  unfolding blockOf
-  hash-inside = inside v 1 (b .hash) (sym (ap (λ (x : Block). x .hash) e))
-
   pub data-inside : {start stop : ℕ} → b .«data» ≡ At start stop → (start ≤ stop) × (stop ≤ length v)
   unfolding blockOf
   data-inside {start} {stop} h = bytes-within v 4 start stop (sym (ap (λ (x : Block). x .«data») e) ∙ h)
 
   -- an offer is taken by its hash, its number and its bytes
   module _ (i : Image) (bs : List ℕ) where
-    pub take-other : isHash (i .hash) v (b .hash) ≡ false → takeBlock i bs v ≡ record { image = i; bytes = bs }
+    pub take-other : isText (i .hash) v false (b .hash) ≡ false → takeBlock i bs v ≡ record { image = i; bytes = bs }
     unfolding takeBlock offered
     take-other h = rw (← e, h)
 
-    pub take-numberless : isHash (i .hash) v (b .hash) ≡ true → b .number ≡ NoNumber → takeBlock i bs v ≡ record { image = i; bytes = bs }
+    pub take-numberless : isText (i .hash) v false (b .hash) ≡ true → b .number ≡ NoNumber → takeBlock i bs v ≡ record { image = i; bytes = bs }
     unfolding takeBlock offered
     take-numberless h g = rw (← e, h, g)
 
-    pub take-dataless : {n : ℕ} → isHash (i .hash) v (b .hash) ≡ true → b .number ≡ Given n → b .«data» ≡ Absent
+    pub take-dataless : {n : ℕ} → isText (i .hash) v false (b .hash) ≡ true → b .number ≡ Given n → b .«data» ≡ Absent
         → takeBlock i bs v ≡ record { image = i; bytes = bs }
     unfolding takeBlock offered
     take-dataless h g k = rw (← e, h, g, k)
 
-    pub take-this : {n start stop : ℕ} → isHash (i .hash) v (b .hash) ≡ true → b .number ≡ Given n → b .«data» ≡ At start stop
+    pub take-this : {n start stop : ℕ} → isText (i .hash) v false (b .hash) ≡ true → b .number ≡ Given n → b .«data» ≡ At start stop
         → takeBlock i bs v ≡ putBlock i bs n (take (stop - start) (drop start v))
     unfolding takeBlock offered
     take-this h g k = rw (← e, h, g, k)

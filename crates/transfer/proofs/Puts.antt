@@ -1,12 +1,12 @@
 -- Laws of puts, for feeds of blocks in any order: what a put keeps, what it writes, and that puts which agree commute.
-use Prim.Native.Nat.{ℕ, _+_, _*_, _≤_, _<_}
+use Prim.Native.Nat.{ℕ, _*_, _<_}
 use mathlib.Core.Path.{_≡_, refl, sym, ap, subst, _∙_}
 use mathlib.Core.List.{List}
-use mathlib.Core.Bool.{Bool, true, false, _&&_, true≢false}
+use mathlib.Core.Bool.{Bool, true, false, true≢false}
 use native.Mathlib.Omega.{arith}
 use borrow.Author.Tests.{ltb-true, ltb-false, eqb-true, eqb-false}
 use lib.Dec.{eqb, ltb}
-use lib.ListN.{length, take, drop, getD}
+use lib.ListN.{length, take, drop}
 use lib.Seq.{sets, length-sets}
 use Rattle.buffer.proofs.Tests.{split, both}
 use Rattle.csmp.specs.declared.Image.{Image}
@@ -16,7 +16,7 @@ use Rattle.transfer.specs.Blocks.{blocks, blockLength}
 use Rattle.transfer.proofs.BlockLaws.{put-unfit, put-held, put-new}
 use Rattle.transfer.proofs.Lengths.{block-inside, lower-before}
 use Rattle.transfer.proofs.Marks.{length-marked, held-marked, held-other, marked-swap}
-use Rattle.transfer.proofs.Stores.{sets-swap, getD-sets-other, take-sets}
+use Rattle.transfer.proofs.Stores.{sets-swap, take-sets}
 
 -- a put into a state
 abbrev pub put : ℕ → List ℕ → Flash → Flash
@@ -51,12 +51,6 @@ module _ (i : Image) (bs : List ℕ) (n : ℕ) (d : List ℕ) where
   pub put-hash : putBlock i bs n d .image .hash ≡ i .hash
   put-hash = put-cases (λ (f : Flash). f .image .hash ≡ i .hash) refl (λ h g. refl)
 
-  pub put-name : putBlock i bs n d .image .name ≡ i .name
-  put-name = put-cases (λ (f : Flash). f .image .name ≡ i .name) refl (λ h g. refl)
-
-  pub put-version : putBlock i bs n d .image .version ≡ i .version
-  put-version = put-cases (λ (f : Flash). f .image .version ≡ i .version) refl (λ h g. refl)
-
   pub put-size : putBlock i bs n d .image .size ≡ i .size
   put-size = put-cases (λ (f : Flash). f .image .size ≡ i .size) refl (λ h g. refl)
 
@@ -73,22 +67,9 @@ module _ (i : Image) (bs : List ℕ) (n : ℕ) (d : List ℕ) where
       put-cases (λ (f : Flash). held (f .image .bitmap) m ≡ true) k
       (λ h g. held-other (i .bitmap) m n (λ e. true≢false (sym k ∙ ap (held (i .bitmap)) e ∙ g)) ∙ k)
 
-  -- another number's bit is as it was, and so is a spare bit
-  pub held-elsewhere : (m : ℕ) → (m ≡ n → ⊥) → held (putBlock i bs n d .image .bitmap) m ≡ held (i .bitmap) m
-  held-elsewhere m k = put-cases (λ (f : Flash). held (f .image .bitmap) m ≡ held (i .bitmap) m) refl (λ h g. held-other (i .bitmap) m n k)
-
-  pub put-spare : (m : ℕ) → blocks (i .size) (i .«block_size») ≤ m → held (putBlock i bs n d .image .bitmap) m ≡ held (i .bitmap) m
-  put-spare m k =
-      put-cases (λ (f : Flash). held (f .image .bitmap) m ≡ held (i .bitmap) m) refl
-      (λ h g. held-other (i .bitmap) m n (λ e. let t = fits-told i n (length d) h in omega arith))
-
-  -- the buffer keeps its length, and an index outside the block's stretch is as it was
+  -- the buffer keeps its length
   pub put-length : length (putBlock i bs n d .bytes) ≡ length bs
   put-length = put-cases (λ (f : Flash). length (f .bytes) ≡ length bs) refl (λ h g. length-sets bs (n * i .«block_size») d)
-
-  pub put-outside : (k : ℕ) → (n * i .«block_size» ≤ k → k < n * i .«block_size» + length d → ⊥) → getD (putBlock i bs n d .bytes) k 0 ≡ getD bs k 0
-  put-outside k o =
-      put-cases (λ (f : Flash). getD (f .bytes) k 0 ≡ getD bs k 0) refl (λ h g. getD-sets-other d bs (n * i .«block_size») k 0 o)
 
   module _ (s : Sound i bs) where
     pub sound-put : Sound (putBlock i bs n d .image) (putBlock i bs n d .bytes)
@@ -102,14 +83,11 @@ module _ (i : Image) (bs : List ℕ) (n : ℕ) (d : List ℕ) where
         })
 
     module _ (h : fitsAt i n (length d) ≡ true) where
-      -- a block that fits is held after its put, and another put of its number changes nothing
+      -- a block that fits is held after its put
       pub put-holds : held (putBlock i bs n d .image .bitmap) n ≡ true
       put-holds =
           split (held (i .bitmap) n) (held-stays n)
           (λ g. rw (put-new i bs n d h g) (held-marked (i .bitmap) n (let t = fits-told i n (length d) h in let m = s .numbered in omega arith) (s .mapped)))
-
-      pub put-again : (e : List ℕ) → put n e (putBlock i bs n d) ≡ putBlock i bs n d
-      put-again e = put-held (putBlock i bs n d .image) (putBlock i bs n d .bytes) n e put-holds
 
       -- a block that fits and was missing stands in its stretch
       pub put-inside : held (i .bitmap) n ≡ false → take (length d) (drop (n * i .«block_size») (putBlock i bs n d .bytes)) ≡ d
@@ -128,15 +106,6 @@ abbrev pub Agree : Image → ℕ → List ℕ → ℕ → List ℕ → Type 0
 Agree i m d n e = m ≡ n → held (i .bitmap) m ≡ false → fitsAt i m (length d) ≡ true → fitsAt i n (length e) ≡ true → d ≡ e
 
 module _ (i : Image) (m : ℕ) (d : List ℕ) (n : ℕ) (e : List ℕ) where
-  pub agree-other : (m ≡ n → ⊥) → Agree i m d n e
-  agree-other h p k f g = absurd (h p)
-
-  pub agree-same : d ≡ e → Agree i m d n e
-  agree-same h p k f g = h
-
-  pub agree-held : held (i .bitmap) m ≡ true → Agree i m d n e
-  agree-held h p k f g = absurd (true≢false (sym h ∙ k))
-
   module _ (bs : List ℕ) where
     -- a put keeps agreement
     pub agree-put : (k : ℕ) (b : List ℕ) → Agree i m d n e → Agree (putBlock i bs k b .image) m d n e

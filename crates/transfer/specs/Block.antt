@@ -1,31 +1,19 @@
 -- Taking blocks, document 01, "Transfer", record 67.
-use Prim.Native.Nat.{ℕ, _*_, _-_, _≤_}
+use Prim.Native.Nat.{ℕ, _*_, _≤_}
 use mathlib.Core.Path.{_≡_}
 use mathlib.Core.List.{List}
 use mathlib.Core.Bool.{Bool, false, _&&_}
 use mathlib.Core.Option.{Option, none, some}
-use lib.ListN.{length, take, drop}
+use lib.ListN.{length}
 use lib.Dec.{eqb, ltb}
 use lib.Seq.{sets}
 use Rattle.buffer.specs.Pick.{pick}
-use Rattle.buffer.specs.Same.{sameBytes}
-use Rattle.csmp.specs.Read.{blockOf}
+use Rattle.decode.specs.Read.{blockOf}
 use Rattle.csmp.specs.declared.Image.{Image}
+use Rattle.protobuf.specs.Find.{isText}
 use Rattle.protobuf.specs.Statements.{numberGiven, bytesGiven}
-use Rattle.protobuf.specs.declared.Bytes.{Bytes}
-use Rattle.protobuf.specs.declared.Bytes.the-variants.{At, Absent}
 use Rattle.transfer.specs.Blocks.{blocks, blockLength}
 use Rattle.transfer.specs.Bitmap.{held, marked, withBitmap}
-
--- bytes that lie in a value
-abbrev pub Inside : List ℕ → Bytes → Type 0
-Inside v (At start stop) = (start ≤ stop) × (stop ≤ length v)
-Inside v Absent = Unit {0}
-
--- whether bytes of a value are a hash
-unfoldable pub isHash : List ℕ → List ℕ → Bytes → Bool
-isHash hash v (At start stop) = sameBytes hash (take (stop - start) (drop start v))
-isHash hash v Absent = false
 
 -- the number is in range, and the data has exactly the block's length
 unfoldable pub fitsAt : Image → ℕ → ℕ → Bool
@@ -63,7 +51,7 @@ offerOf (some n) (some bs) = some (record { number = n; bytes = bs })
 
 unfoldable pub offered : Image → List ℕ → Option Offer
 offered i v =
-    pick (isHash (i .hash) v (blockOf v .hash)) (offerOf (numberGiven (blockOf v .number)) (bytesGiven v (blockOf v .«data»))) none
+    pick (isText (i .hash) v false (blockOf v .hash)) (offerOf (numberGiven (blockOf v .number)) (bytesGiven v (blockOf v .«data»))) none
 
 abbrev pub putOffer : Image → List ℕ → Option Offer → Flash
 putOffer i bs none = record { image = i; bytes = bs }

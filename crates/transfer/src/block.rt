@@ -5,18 +5,7 @@ use protobuf::Bytes;
 use protobuf::Number;
 ghost use mathlib.Core.Path.{_≡_};
 ghost use lib.Seq.{sets};
-ghost use Rattle.transfer.specs.Block.{Inside, isHash, fitsAt, putBlock, takeBlock, Left};
-
-// Whether bytes of a value are a hash.
-fn is_hash(hash: [u8; 32], v: &[u8], place: Bytes) -> bool
-    requires { ⌜ Inside (now v) place ⌝ }
-    ensures { λ r. ⌜ r ≡ isHash hash (now (v .entry)) place ⌝ }
-{
-    let Bytes::At(start, end) = place else {
-        return false;
-    };
-    buffer::same(&hash, &v[start..end])
-}
+ghost use Rattle.transfer.specs.Block.{fitsAt, putBlock, takeBlock, Left};
 
 // The block copier: writes a block at the front of the part of the buffer that begins where the block starts.
 fn copy_block(flash: &mut [u8], start: usize, bytes: &[u8])
@@ -60,10 +49,10 @@ fn put_block(image: Image, flash: &mut [u8], n: u32, bytes: &[u8]) -> Image
 pub fn take_block(image: Image, flash: &mut [u8], v: &[u8]) -> Image
     ensures { λ r. ⌜ Left (takeBlock image (now (flash .entry)) (now (v .entry))) r (now (flash .exit)) ⌝ }
 {
-    let block = csmp::read_block(v);
+    let block = decode::read_block(v);
     let hash = image.hash;
     let given = block.hash;
-    if !is_hash(hash, v, given) {
+    if !protobuf::is_text(&hash, v, given, false) {
         return image;
     }
     let number = block.number;

@@ -2,8 +2,6 @@
 mod bitmap;
 mod block;
 
-pub use bitmap::all_held;
-pub use bitmap::is_held;
 pub use block::take_block;
 use csmp::Image;
 ghost use mathlib.Core.Path.{_≡_};
@@ -22,7 +20,7 @@ pub fn block_count(size: u32, block_size: u32) -> u64
 }
 
 // The length of block n: every block is full but the last, which holds the rest.
-pub fn block_len(size: u32, block_size: u32, n: u32) -> u64
+fn block_len(size: u32, block_size: u32, n: u32) -> u64
     ensures { λ r. ⌜ r ≡ blockLength size «block_size» n ⌝ }
 {
     let start = n as u64 * block_size as u64;

@@ -1,4 +1,4 @@
--- `setup` meets its contract: the values in their order.
+-- `agent::setup` meets its contract: it is the state's.
 use borrow.Author.Needs.{needs}
 use Rattle.agent.proofs.setup.Statement.{statement}
 use Rattle.agent.proofs.setup.Tie as tie

@@ -9,10 +9,10 @@ use Rattle.messages.proofs.show_records.Statement.{statement}
 use Rattle.messages.proofs.show_records.Tie as tie
 
 abbrev Inv-loop : tie.InvT-loop
-Inv-loop s cursor₀ t4 cursor = Unit {0}
+Inv-loop s at₀ t4 at = Unit {0}
 
 abbrev μ-loop : tie.MeasureT-loop
-μ-loop s cursor₀ t4 cursor = length s - cursor .at
+μ-loop s at₀ t4 at = length s - at
 
 loop-holds : tie.Need-loop-holds Inv-loop μ-loop
 loop-holds c = search needs
@@ -40,8 +40,8 @@ show-part-requires c κs = search needs
 
 loop-less : tie.Need-loop-less Inv-loop μ-loop
 loop-less c =
-    let l = c .before .before .before .before .before .before .before .loop in
-    omega (arith, c .before .before .before .before .before .if1 .taken, record-inside _ (l .cursor .at) _ (sym (c .before .before .before .before .take-record .ensures) ∙ c .before .before .r .given .1))
+    let l = c .before .before .before .before .before .before .loop in
+    omega (arith, c .before .before .before .before .before .loop-test .taken, record-inside _ (l .at) _ (sym (c .before .before .before .before .take-record .ensures) ∙ c .before .before .r .given .1))
 
 loop-again : tie.Need-loop-again Inv-loop μ-loop
 loop-again c = search needs

@@ -9,10 +9,10 @@ use Rattle.player.proofs.play.Statement.{statement}
 use Rattle.player.proofs.play.Tie as tie
 
 abbrev Inv-loop : tie.InvT-loop
-Inv-loop s images image₀ state₀ store₀ cursor₀ n₀ t10 image state store cursor n = n ≤ cursor .at
+Inv-loop s images image₀ state₀ store₀ at₀ n₀ t10 image state store at n = n ≤ at
 
 abbrev μ-loop : tie.MeasureT-loop
-μ-loop s images image₀ state₀ store₀ cursor₀ n₀ t10 image state store cursor n = length s - cursor .at
+μ-loop s images image₀ state₀ store₀ at₀ n₀ t10 image state store at n = length s - at
 
 device-requires : tie.Need-device-requires Inv-loop μ-loop
 device-requires c κs = search needs
@@ -47,19 +47,19 @@ play-record-requires c κs = search needs
 add-n : tie.Need-add-n Inv-loop μ-loop
 add-n c =
     let k = c .before .before .before .before .before .before .before in
-    omega (arith, k .before .before .loop .inv, k .if1 .taken, k .before .before .before .before .before .before .good)
+    omega (arith, k .before .loop .inv, k .loop-test .taken, k .before .before .before .before .before .good)
 
 loop-less : tie.Need-loop-less Inv-loop μ-loop
 loop-less c =
     let k = c .before .before .before .before in
-    let at = k .before .before .before .before .before .loop .cursor .at in
-    omega (arith, k .before .before .before .if1 .taken, record-inside _ at _ (sym (k .before .before .take-record .ensures) ∙ k .r .given .1))
+    let at = k .before .before .before .before .loop .at in
+    omega (arith, k .before .before .before .loop-test .taken, record-inside _ at _ (sym (k .before .before .take-record .ensures) ∙ k .r .given .1))
 
 loop-again : tie.Need-loop-again Inv-loop μ-loop
 loop-again c =
     let k = c .before .before .before .before in
-    let at = k .before .before .before .before .before .loop .cursor .at in
-    omega (arith, k .before .before .before .if1 .taken, record-inside _ at _ (sym (k .before .before .take-record .ensures) ∙ k .r .given .1))
+    let at = k .before .before .before .before .loop .at in
+    omega (arith, k .before .before .before .loop-test .taken, record-inside _ at _ (sym (k .before .before .take-record .ensures) ∙ k .r .given .1))
 
 returns-2 : tie.Need-returns-2 Inv-loop μ-loop
 returns-2 c = search needs

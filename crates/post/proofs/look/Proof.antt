@@ -11,10 +11,10 @@ use Rattle.post.proofs.look.Statement.{statement}
 use Rattle.post.proofs.look.Tie as tie
 
 abbrev Inv-loop : tie.InvT-loop
-Inv-loop payload groups time seen₀ cursor₀ seen cursor = (lookedAt groups time payload ≡ lookedFrom groups time payload (cursor .at) seen) × (seen .records ≤ cursor .at) × (cursor .at ≤ length payload)
+Inv-loop payload groups time seen₀ at₀ seen at = (lookedAt groups time payload ≡ lookedFrom groups time payload at seen) × (seen .records ≤ at) × (at ≤ length payload)
 
 abbrev μ-loop : tie.MeasureT-loop
-μ-loop payload groups time seen₀ cursor₀ seen cursor = length payload - cursor .at
+μ-loop payload groups time seen₀ at₀ seen at = length payload - at
 
 seal-requires : tie.Need-seal-requires Inv-loop μ-loop
 seal-requires c κs = search needs
@@ -39,50 +39,50 @@ seal-requires-2 c κs = search needs
 
 returns-2 : tie.Need-returns-2 Inv-loop μ-loop
 returns-2 c =
-    let a = c .before .before .before .before .before .before .before .before .before .args in
-    let l = c .before .before .before .before .before .before .loop in
-    c .seal2 .ensures ∙ sym (l .inv .0 ∙ looked-unreadable (a .groups) (a .time) (a .payload .now) (l .cursor .at) (l .seen) (c .before .before .before .before .if2 .taken) (sym (c .before .before .before .take-record .ensures) ∙ c .before .enum-told .given .1))
+    let a = c .before .before .before .before .before .before .before .before .args in
+    let l = c .before .before .before .before .before .loop in
+    c .seal2 .ensures ∙ sym (l .inv .0 ∙ looked-unreadable (a .groups) (a .time) (a .payload .now) (l .at) (l .seen) (c .before .before .before .before .loop-test .taken) (sym (c .before .before .before .take-record .ensures) ∙ c .before .enum-told .given .1))
 
 sub-note : tie.Need-sub-note Inv-loop μ-loop
 sub-note c =
-    let p = c .before .before .before .before .before .before .before .before .before .args .payload .now in
-    let i = record-inside p (c .before .before .before .before .before .before .loop .cursor .at) _ (sym (c .before .before .before .take-record .ensures) ∙ c .before .r .given .1) in
+    let p = c .before .before .before .before .before .before .before .before .args .payload .now in
+    let i = record-inside p (c .before .before .before .before .before .loop .at) _ (sym (c .before .before .before .take-record .ensures) ∙ c .before .r .given .1) in
     omega arith
 
 part-note-start : tie.Need-part-note-start Inv-loop μ-loop
 part-note-start c =
-    let p = c .before .before .before .before .before .before .before .before .before .args .payload .now in
-    let i = record-inside p (c .before .before .before .before .before .before .loop .cursor .at) _ (sym (c .before .before .before .take-record .ensures) ∙ c .before .r .given .1) in
+    let p = c .before .before .before .before .before .before .before .before .args .payload .now in
+    let i = record-inside p (c .before .before .before .before .before .loop .at) _ (sym (c .before .before .before .take-record .ensures) ∙ c .before .r .given .1) in
     omega arith
 
 part-note-end : tie.Need-part-note-end Inv-loop μ-loop
 part-note-end c =
-    let p = c .before .before .before .before .before .before .before .before .before .args .payload .now in
-    let i = record-inside p (c .before .before .before .before .before .before .loop .cursor .at) _ (sym (c .before .before .before .take-record .ensures) ∙ c .before .r .given .1) in
+    let p = c .before .before .before .before .before .before .before .before .args .payload .now in
+    let i = record-inside p (c .before .before .before .before .before .loop .at) _ (sym (c .before .before .before .take-record .ensures) ∙ c .before .r .given .1) in
     omega arith
 
 note-requires : tie.Need-note-requires Inv-loop μ-loop
 note-requires c κs =
-    let l = c .before .before .before .before .before .before .before .loop .inv in
-    let h = c .before .before .before .before .before .before .before .before .if1 .left in
+    let l = c .before .before .before .before .before .before .loop .inv in
+    let h = c .before .before .before .before .before .before .before .if1 .left in
     omega arith
 
 loop-less : tie.Need-loop-less Inv-loop μ-loop
 loop-less c =
-    let p = c .before .before .before .before .before .before .before .before .before .before .before .args .payload .now in
-    let l = c .before .before .before .before .before .before .before .before .loop in
-    let i = record-inside p (l .cursor .at) _ (sym (c .before .before .before .before .before .take-record .ensures) ∙ c .before .before .before .r .given .1) in
+    let p = c .before .before .before .before .before .before .before .before .before .before .args .payload .now in
+    let l = c .before .before .before .before .before .before .before .loop in
+    let i = record-inside p (l .at) _ (sym (c .before .before .before .before .before .take-record .ensures) ∙ c .before .before .before .r .given .1) in
     omega arith
 
 loop-again : tie.Need-loop-again Inv-loop μ-loop
 loop-again c =
-    let a = c .before .before .before .before .before .before .before .before .before .before .before .args in
+    let a = c .before .before .before .before .before .before .before .before .before .before .args in
     let p = a .payload .now in
-    let l = c .before .before .before .before .before .before .before .before .loop in
+    let l = c .before .before .before .before .before .before .before .loop in
     let e = sym (c .before .before .before .before .before .take-record .ensures) ∙ c .before .before .before .r .given .1 in
-    let i = record-inside p (l .cursor .at) _ e in
+    let i = record-inside p (l .at) _ e in
     let n = noted-count (a .groups) (a .time) (l .seen) _ _ (c .note .result) (c .note .ensures) in (
-      l .inv .0 ∙ looked-next (a .groups) (a .time) p (l .cursor .at) (l .seen) _ (c .note .result) e (c .note .ensures),
+      l .inv .0 ∙ looked-next (a .groups) (a .time) p (l .at) (l .seen) _ (c .note .result) e (c .note .ensures),
       omega arith,
       omega arith,
     )
@@ -92,9 +92,9 @@ seal-requires-3 c κs = search needs
 
 returns-3 : tie.Need-returns-3 Inv-loop μ-loop
 returns-3 c =
-    let a = c .before .before .before .before .before .before .args in
-    let l = c .before .before .before .loop in
-    c .seal3 .ensures ∙ sym (l .inv .0 ∙ looked-end (a .groups) (a .time) (a .payload .now) (l .cursor .at) (l .seen) (c .before .if2 .left))
+    let a = c .before .before .before .before .before .args in
+    let l = c .before .before .loop in
+    c .seal3 .ensures ∙ sym (l .inv .0 ∙ looked-end (a .groups) (a .time) (a .payload .now) (l .at) (l .seen) (c .before .loop-test .left))
 
 pub look-spec : {M : Type 1} → statement M
 look-spec =

@@ -11,11 +11,11 @@ use Rattle.run.proofs.run.Statement.{statement}
 use Rattle.run.proofs.run.Tie as tie
 
 abbrev Inv-loop : tie.InvT-loop
-Inv-loop device flash₀ payload out₀ ran₀ cursor₀ flash out ran cursor =
-    Going device (worldOf ran₀ flash₀) payload out₀ (ran₀ .end) (cursor .at) (worldOf ran flash) out (ran .end) × (length flash ≡ length flash₀)
+Inv-loop device flash₀ payload out₀ ran₀ at₀ flash out ran at =
+    Going device (worldOf ran₀ flash₀) payload out₀ (ran₀ .end) at (worldOf ran flash) out (ran .end) × (length flash ≡ length flash₀)
 
 abbrev μ-loop : tie.MeasureT-loop
-μ-loop device flash₀ payload out₀ ran₀ cursor₀ flash out ran cursor = length payload - cursor .at
+μ-loop device flash₀ payload out₀ ran₀ at₀ flash out ran at = length payload - at
 
 loop-holds : tie.Need-loop-holds Inv-loop μ-loop
 loop-holds c = (going-start _ _ _ _ _ (c .before .before .before .pre), refl)
@@ -36,33 +36,33 @@ same-length-2 : tie.Need-same-length-2 Inv-loop μ-loop
 same-length-2 c = search needs
 
 returns : tie.Need-returns Inv-loop μ-loop
-returns c = let l = c .before .before .before .before .before .loop in
-    going-end _ _ _ _ _ (l .cursor .at) (l .inv .0) (rest-unreadable _ _ (c .before .before .before .if1 .taken) (sym (c .before .before .take-record .ensures) ∙ c .enum-told .given .1))
+returns c = let l = c .before .before .before .before .loop in
+    going-end _ _ _ _ _ (l .at) (l .inv .0) (rest-unreadable _ _ (c .before .before .before .loop-test .taken) (sym (c .before .before .take-record .ensures) ∙ c .enum-told .given .1))
 
 sub-run-record : tie.Need-sub-run-record Inv-loop μ-loop
-sub-run-record c = let i = record-inside (c .before .before .before .before .before .before .before .before .before .before .before .args .payload .now) (c .before .before .before .before .before .before .before .loop .cursor .at) _ (sym (c .before .before .before .before .take-record .ensures) ∙ c .before .before .r .given .1) in
+sub-run-record c = let i = record-inside (c .before .before .before .before .before .before .before .before .before .before .args .payload .now) (c .before .before .before .before .before .before .loop .at) _ (sym (c .before .before .before .before .take-record .ensures) ∙ c .before .before .r .given .1) in
     omega arith
 
 part-run-record-start : tie.Need-part-run-record-start Inv-loop μ-loop
-part-run-record-start c = let i = record-inside (c .before .before .before .before .before .before .before .before .before .before .before .args .payload .now) (c .before .before .before .before .before .before .before .loop .cursor .at) _ (sym (c .before .before .before .before .take-record .ensures) ∙ c .before .before .r .given .1) in
+part-run-record-start c = let i = record-inside (c .before .before .before .before .before .before .before .before .before .before .args .payload .now) (c .before .before .before .before .before .before .loop .at) _ (sym (c .before .before .before .before .take-record .ensures) ∙ c .before .before .r .given .1) in
     omega arith
 
 part-run-record-end : tie.Need-part-run-record-end Inv-loop μ-loop
-part-run-record-end c = let i = record-inside (c .before .before .before .before .before .before .before .before .before .before .before .args .payload .now) (c .before .before .before .before .before .before .before .loop .cursor .at) _ (sym (c .before .before .before .before .take-record .ensures) ∙ c .before .before .r .given .1) in
+part-run-record-end c = let i = record-inside (c .before .before .before .before .before .before .before .before .before .before .args .payload .now) (c .before .before .before .before .before .before .loop .at) _ (sym (c .before .before .before .before .take-record .ensures) ∙ c .before .before .r .given .1) in
     omega arith
 
 run-record-requires : tie.Need-run-record-requires Inv-loop μ-loop
-run-record-requires c κs = let r = c .before .before .before .before .before .before .before .before .before .loop .inv .0 .room in
+run-record-requires c κs = let r = c .before .before .before .before .before .before .before .before .loop .inv .0 .room in
     omega arith
 
 loop-less : tie.Need-loop-less Inv-loop μ-loop
-loop-less c = let i = record-inside (c .before .before .before .before .before .before .before .before .before .before .before .before .before .before .before .before .before .before .args .payload .now) (c .before .before .before .before .before .before .before .before .before .before .before .before .before .before .loop .cursor .at) _ (sym (c .before .before .before .before .before .before .before .before .before .before .before .take-record .ensures) ∙ c .before .before .before .before .before .before .before .before .before .r .given .1) in
+loop-less c = let i = record-inside (c .before .before .before .before .before .before .before .before .before .before .before .before .before .before .before .before .before .args .payload .now) (c .before .before .before .before .before .before .before .before .before .before .before .before .before .loop .at) _ (sym (c .before .before .before .before .before .before .before .before .before .before .before .take-record .ensures) ∙ c .before .before .before .before .before .before .before .before .before .r .given .1) in
     omega arith
 
 loop-again : tie.Need-loop-again Inv-loop μ-loop
-loop-again c = let l = c .before .before .before .before .before .before .before .before .before .before .before .before .before .before .loop in
+loop-again c = let l = c .before .before .before .before .before .before .before .before .before .before .before .before .before .loop in
     let s = c .before .before .before .before .run-record .ensures in (
-      going-next _ _ _ _ _ (l .cursor .at) _ _ _ _ _ _ _ (l .inv .0) (sym (c .before .before .before .before .before .before .before .before .before .before .before .take-record .ensures) ∙ c .before .before .before .before .before .before .before .before .before .r .given .1) (s .world) (s .appended),
+      going-next _ _ _ _ _ (l .at) _ _ _ _ _ _ _ (l .inv .0) (sym (c .before .before .before .before .before .before .before .before .before .before .before .take-record .ensures) ∙ c .before .before .before .before .before .before .before .before .before .r .given .1) (s .world) (s .appended),
       search needs,
     )
 
@@ -73,8 +73,8 @@ same-length-4 : tie.Need-same-length-4 Inv-loop μ-loop
 same-length-4 c = search needs
 
 returns-2 : tie.Need-returns-2 Inv-loop μ-loop
-returns-2 c = let l = c .before .before .loop in
-    going-end _ _ _ _ _ (l .cursor .at) (l .inv .0) (rest-end _ _ (c .if1 .left))
+returns-2 c = let l = c .before .loop in
+    going-end _ _ _ _ _ (l .at) (l .inv .0) (rest-end _ _ (c .loop-test .left))
 
 pub run-spec : {M : Type 1} → statement M
 run-spec =

@@ -12,10 +12,10 @@ use Rattle.store.proofs.is_acceptable.Statement.{statement}
 use Rattle.store.proofs.is_acceptable.Tie as tie
 
 abbrev Inv-loop : tie.InvT-loop
-Inv-loop s seen₀ cursor₀ seen cursor = (acceptable s ≡ acceptedFrom s (cursor .at) seen) × (seen .records ≤ cursor .at) × (seen .ids ≤ cursor .at) × (cursor .at ≤ length s)
+Inv-loop s seen₀ at₀ seen at = (acceptable s ≡ acceptedFrom s at seen) × (seen .records ≤ at) × (seen .ids ≤ at) × (at ≤ length s)
 
 abbrev μ-loop : tie.MeasureT-loop
-μ-loop s seen₀ cursor₀ seen cursor = length s - cursor .at
+μ-loop s seen₀ at₀ seen at = length s - at
 
 returns : tie.Need-returns Inv-loop μ-loop
 returns c = sym (accepted-large _ (c .if1 .taken))
@@ -34,31 +34,31 @@ enum-told c = search needs
 
 returns-2 : tie.Need-returns-2 Inv-loop μ-loop
 returns-2 c =
-    let s = c .before .before .before .before .before .before .before .before .args .s .now in
-    let l = c .before .before .before .before .before .loop in
-    sym (l .inv .0 ∙ accepted-unreadable s (l .cursor .at) (l .seen) (c .before .before .before .if2 .taken) (sym (c .before .before .take-record .ensures) ∙ c .enum-told .given .1))
+    let s = c .before .before .before .before .before .before .before .args .s .now in
+    let l = c .before .before .before .before .loop in
+    sym (l .inv .0 ∙ accepted-unreadable s (l .at) (l .seen) (c .before .before .before .loop-test .taken) (sym (c .before .before .take-record .ensures) ∙ c .enum-told .given .1))
 
 note-requires : tie.Need-note-requires Inv-loop μ-loop
 note-requires c κs =
-    let l = c .before .before .before .before .before .before .loop .inv in
-    let h = c .before .before .before .before .before .before .before .if1 .left in
+    let l = c .before .before .before .before .before .loop .inv in
+    let h = c .before .before .before .before .before .before .if1 .left in
     (omega arith, omega arith)
 
 loop-less : tie.Need-loop-less Inv-loop μ-loop
 loop-less c =
-    let s = c .before .before .before .before .before .before .before .before .before .before .args .s .now in
-    let l = c .before .before .before .before .before .before .before .loop in
-    let i = record-inside s (l .cursor .at) _ (sym (c .before .before .before .before .take-record .ensures) ∙ c .before .before .r .given .1) in
+    let s = c .before .before .before .before .before .before .before .before .before .args .s .now in
+    let l = c .before .before .before .before .before .before .loop in
+    let i = record-inside s (l .at) _ (sym (c .before .before .before .before .take-record .ensures) ∙ c .before .before .r .given .1) in
     omega arith
 
 loop-again : tie.Need-loop-again Inv-loop μ-loop
 loop-again c =
-    let s = c .before .before .before .before .before .before .before .before .before .before .args .s .now in
-    let l = c .before .before .before .before .before .before .before .loop in
+    let s = c .before .before .before .before .before .before .before .before .before .args .s .now in
+    let l = c .before .before .before .before .before .before .loop in
     let e = sym (c .before .before .before .before .take-record .ensures) ∙ c .before .before .r .given .1 in
-    let i = record-inside s (l .cursor .at) _ e in
+    let i = record-inside s (l .at) _ e in
     let n = noted-counts (l .seen) _ (c .note .result) (c .note .ensures) in (
-      l .inv .0 ∙ accepted-next s (l .cursor .at) (l .seen) _ e ∙ sym (ap (λ (x : Seen). acceptedFrom s (c .before .before .r .given .0 .0 .end) x) (c .note .ensures)),
+      l .inv .0 ∙ accepted-next s (l .at) (l .seen) _ e ∙ sym (ap (λ (x : Seen). acceptedFrom s (c .before .before .r .given .0 .0 .end) x) (c .note .ensures)),
       omega arith,
       omega arith,
       omega arith,
@@ -69,9 +69,9 @@ is-fine-requires c κs = search needs
 
 returns-3 : tie.Need-returns-3 Inv-loop μ-loop
 returns-3 c =
-    let s = c .before .before .before .before .before .before .args .s .now in
-    let l = c .before .before .before .loop in
-    c .is-fine .ensures ∙ sym (l .inv .0 ∙ accepted-end s (l .cursor .at) (l .seen) (c .before .if2 .left))
+    let s = c .before .before .before .before .before .args .s .now in
+    let l = c .before .before .loop in
+    c .is-fine .ensures ∙ sym (l .inv .0 ∙ accepted-end s (l .at) (l .seen) (c .before .loop-test .left))
 
 pub is-acceptable-spec : {M : Type 1} → statement M
 is-acceptable-spec =

@@ -1,7 +1,7 @@
 -- `firmware::load::answer_backup` meets its contract: a bad hash is invalid; else the request is judged by it.
 use mathlib.Core.Path.{sym, _∙_}
 use borrow.Author.Tests.{not-true, not-false}
-use Rattle.firmware.proofs.Answers.{hash-inside, backup-bad, backup-this}
+use Rattle.firmware.proofs.Answers.{backup-bad, backup-this}
 use borrow.Author.Needs.{needs}
 use Rattle.firmware.proofs.load.answer_backup.Statement.{statement}
 use Rattle.firmware.proofs.load.answer_backup.Tie as tie
@@ -19,7 +19,7 @@ returns : tie.Need-returns
 returns c = c .keep .ensures ∙ sym (backup-bad _ _ (c .before .before .before .read-hash .ensures) _ (sym (c .before .before .is-hash .ensures) ∙ not-true _ (c .before .if1 .taken)))
 
 hash-at-requires : tie.Need-hash-at-requires
-hash-at-requires c κs = hash-inside _ _ (c .before .before .read-hash .ensures)
+hash-at-requires c κs = search needs
 
 back-up-requires : tie.Need-back-up-requires
 back-up-requires c κs = search needs

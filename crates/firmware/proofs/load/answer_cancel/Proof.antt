@@ -1,7 +1,7 @@
 -- `firmware::load::answer_cancel` meets its contract: a bad hash is invalid; else the request is judged by it.
 use mathlib.Core.Path.{sym, _∙_}
 use borrow.Author.Tests.{not-true, not-false}
-use Rattle.firmware.proofs.Answers.{hash-inside, cancel-bad, cancel-this}
+use Rattle.firmware.proofs.Answers.{cancel-bad, cancel-this}
 use borrow.Author.Needs.{needs}
 use Rattle.firmware.proofs.load.answer_cancel.Statement.{statement}
 use Rattle.firmware.proofs.load.answer_cancel.Tie as tie
@@ -19,7 +19,7 @@ returns : tie.Need-returns
 returns c = c .keep .ensures ∙ sym (cancel-bad _ _ (c .before .before .before .read-hash .ensures) _ (sym (c .before .before .is-hash .ensures) ∙ not-true _ (c .before .if1 .taken)))
 
 hash-at-requires : tie.Need-hash-at-requires
-hash-at-requires c κs = hash-inside _ _ (c .before .before .read-hash .ensures)
+hash-at-requires c κs = search needs
 
 cancel-requires : tie.Need-cancel-requires
 cancel-requires c κs = search needs

@@ -1,7 +1,7 @@
 -- `firmware::load::answer_load` meets its contract: a bad hash, no time and time 0 are invalid; else the load is judged.
 use mathlib.Core.Path.{sym, _∙_}
 use borrow.Author.Tests.{not-true, not-false}
-use Rattle.firmware.proofs.Answers.{load-inside, load-bad, load-never, load-zero, load-at}
+use Rattle.firmware.proofs.Answers.{load-bad, load-never, load-zero, load-at}
 use borrow.Author.Needs.{needs}
 use Rattle.firmware.proofs.load.answer_load.Statement.{statement}
 use Rattle.firmware.proofs.load.answer_load.Tie as tie
@@ -37,7 +37,7 @@ returns-3 : tie.Need-returns-3
 returns-3 c = c .keep3 .ensures ∙ sym (load-zero _ _ (c .before .before .before .before .before .before .before .before .read-load .ensures) _ (sym (c .before .before .before .before .before .before .before .is-hash .ensures) ∙ not-false _ (c .before .before .before .before .before .before .if1 .left)) (c .before .before .before .before .time .given .1) (c .before .if2 .taken))
 
 hash-at-requires : tie.Need-hash-at-requires
-hash-at-requires c κs = load-inside _ _ (c .before .before .before .before .before .before .before .read-load .ensures)
+hash-at-requires c κs = search needs
 
 load-requires : tie.Need-load-requires
 load-requires c κs = search needs

@@ -9,11 +9,11 @@ use Rattle.firmware.proofs.load.boot.Tie as tie
 returns : tie.Need-returns
 returns c = sym (boot-idle _ (not-true _ (c .if1 .taken)))
 
-none-pending-requires : tie.Need-none-pending-requires
-none-pending-requires c κs = search needs
+no-pending-requires : tie.Need-no-pending-requires
+no-pending-requires c κs = search needs
 
 returns-2 : tie.Need-returns-2
-returns-2 c = sym (boot-pending _ _ (c .none-pending .ensures) (not-false _ (c .before .before .if1 .left)))
+returns-2 c = sym (boot-pending _ _ (c .no-pending .ensures) (not-false _ (c .before .before .if1 .left)))
 
 pub boot-spec : {M : Type 1} → statement M
-boot-spec = tie.close (tie.spec returns none-pending-requires returns-2)
+boot-spec = tie.close (tie.spec returns no-pending-requires returns-2)

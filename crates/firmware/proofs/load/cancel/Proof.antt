@@ -8,15 +8,15 @@ use Rattle.firmware.proofs.load.cancel.Tie as tie
 is-pending-requires : tie.Need-is-pending-requires
 is-pending-requires c κs = search needs
 
-none-pending-requires : tie.Need-none-pending-requires
-none-pending-requires c κs = search needs
+no-pending-requires : tie.Need-no-pending-requires
+no-pending-requires c κs = search needs
 
 keep-requires : tie.Need-keep-requires
 keep-requires c κs = search needs
 
 returns : tie.Need-returns
 unfolding cancels
-returns c = rw (sym (c .before .before .before .is-pending .ensures) ∙ c .before .before .if1 .taken, ← c .before .none-pending .ensures) (c .keep .ensures)
+returns c = rw (sym (c .before .before .before .is-pending .ensures) ∙ c .before .before .if1 .taken, ← c .before .no-pending .ensures) (c .keep .ensures)
 
 same-hash-requires : tie.Need-same-hash-requires
 same-hash-requires c κs = search needs
@@ -40,7 +40,7 @@ cancel-spec =
     tie.close
     (tie.spec
     is-pending-requires
-    none-pending-requires
+    no-pending-requires
     keep-requires
     returns
     same-hash-requires

@@ -1,7 +1,7 @@
 -- `firmware::open::answer_transfer` meets its contract: a request that is not whole is invalid, a fault answers, and else the image is opened or kept.
 use mathlib.Core.Path.{sym, _∙_}
 use borrow.Author.Tests.{not-true, not-false}
-use Rattle.firmware.proofs.Answers.{transfer-inside, transfer-bad, transfer-fault, transfer-open}
+use Rattle.firmware.proofs.Answers.{transfer-bad, transfer-fault, transfer-open}
 use borrow.Author.Needs.{needs}
 use Rattle.firmware.proofs.open.answer_transfer.Statement.{statement}
 use Rattle.firmware.proofs.open.answer_transfer.Tie as tie
@@ -25,7 +25,7 @@ number-or-zero-requires-2 : tie.Need-number-or-zero-requires-2
 number-or-zero-requires-2 c κs = search needs
 
 fault-requires : tie.Need-fault-requires
-fault-requires c κs = transfer-inside _ _ (c .before .before .before .before .read-transfer .ensures)
+fault-requires c κs = search needs
 
 keep-requires-2 : tie.Need-keep-requires-2
 keep-requires-2 c κs = search needs
@@ -34,7 +34,7 @@ returns-2 : tie.Need-returns-2
 returns-2 c = c .keep2 .ensures ∙ sym (transfer-fault _ _ (c .before .before .before .before .before .before .before .read-transfer .ensures) _ _ (sym (c .before .before .before .before .before .before .is-whole .ensures) ∙ not-false _ (c .before .before .before .before .before .if1 .left)) (c .before .before .before .before .number-or-zero .ensures) (c .before .before .before .number-or-zero2 .ensures) (c .before .before .fault .ensures) (c .before .if2 .taken))
 
 opened-requires : tie.Need-opened-requires
-opened-requires c κs = transfer-inside _ _ (c .before .before .before .before .before .before .read-transfer .ensures)
+opened-requires c κs = search needs
 
 open-or-keep-requires : tie.Need-open-or-keep-requires
 open-or-keep-requires c κs = search needs

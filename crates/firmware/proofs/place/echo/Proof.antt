@@ -1,7 +1,5 @@
 -- `firmware::place::echo` meets its contract: bytes that were found lie in the value, and both parts are what their makers ensure.
-use mathlib.Core.Path.{sym}
 use Rattle.firmware.specs.Place.{echoed}
-use Rattle.firmware.proofs.Answers.{inside}
 use borrow.Author.Needs.{needs}
 use Rattle.firmware.proofs.place.echo.Statement.{statement}
 use Rattle.firmware.proofs.place.echo.Tie as tie
@@ -13,7 +11,7 @@ is-hash-requires : tie.Need-is-hash-requires
 is-hash-requires c κs = search needs
 
 hash-at-requires : tie.Need-hash-at-requires
-hash-at-requires c κs = inside _ _ _ (sym (c .before .last-bytes .ensures))
+hash-at-requires c κs = search needs
 
 returns : tie.Need-returns
 unfolding echoed

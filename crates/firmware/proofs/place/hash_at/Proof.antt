@@ -1,5 +1,5 @@
 -- `firmware::place::hash_at` meets its contract: the bytes are copied to the front of zeros.
-use mathlib.Core.Path.{sym, ap, _∙_}
+use mathlib.Core.Path.{sym, ap}
 use Rattle.firmware.specs.Place.{hashAt}
 use borrow.Author.Needs.{needs}
 use Rattle.firmware.proofs.place.hash_at.Statement.{statement}
@@ -18,32 +18,17 @@ returns c = sym (ap (hashAt _) (c .enum-told .given .1))
 slice-aggregate-copy : tie.Need-slice-aggregate-copy
 slice-aggregate-copy c = search needs
 
-sub-copy : tie.Need-sub-copy
-sub-copy c = rw (c .before .before .place .given .1) at (c .before .before .before .before .before .pre) .0
-
-part-copy-start : tie.Need-part-copy-start
-part-copy-start c = rw (c .before .before .place .given .1) at (c .before .before .before .before .before .pre) .0
-
-part-copy-end : tie.Need-part-copy-end
-part-copy-end c = rw (c .before .before .place .given .1) at (c .before .before .before .before .before .pre) .1
+part-requires : tie.Need-part-requires
+part-requires c κs = search needs
 
 copy-requires : tie.Need-copy-requires
 copy-requires c κs = search needs
 
 returns-2 : tie.Need-returns-2
 unfolding hashAt
-returns-2 c = c .before .copy .ensures ∙ sym (ap (hashAt _) (c .before .before .before .before .before .place .given .1))
+returns-2 c = rw (c .before .copy .ensures, c .before .before .part .ensures) (sym (ap (hashAt _) (c .before .before .before .before .before .place .given .1)))
 
 pub hash-at-spec : {M : Type 1} → statement M
 hash-at-spec =
     tie.close
-    (tie.spec
-    enum-known-place
-    enum-told
-    returns
-    slice-aggregate-copy
-    sub-copy
-    part-copy-start
-    part-copy-end
-    copy-requires
-    returns-2)
+    (tie.spec enum-known-place enum-told returns slice-aggregate-copy part-requires copy-requires returns-2)

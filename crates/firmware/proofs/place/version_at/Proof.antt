@@ -15,39 +15,20 @@ returns : tie.Need-returns
 unfolding versionAt
 returns c = sym (ap (versionAt _) (c .enum-told .given .1))
 
+part-requires : tie.Need-part-requires
+part-requires c κs = search needs
+
 slice-aggregate-copy : tie.Need-slice-aggregate-copy
 slice-aggregate-copy c = search needs
-
-sub-copy : tie.Need-sub-copy
-sub-copy c = rw (c .before .before .place .given .1) at (c .before .before .before .before .before .pre) .0
-
-part-copy-start : tie.Need-part-copy-start
-part-copy-start c = rw (c .before .before .place .given .1) at (c .before .before .before .before .before .pre) .0
-
-part-copy-end : tie.Need-part-copy-end
-part-copy-end c = rw (c .before .before .place .given .1) at (c .before .before .before .before .before .pre) .1
 
 copy-requires : tie.Need-copy-requires
 copy-requires c κs = search needs
 
-sub-t11 : tie.Need-sub-t11
-sub-t11 c = rw (c .before .before .before .before .before .place .given .1) at (c .before .before .before .before .before .before .before .before .pre) .0
-
 returns-2 : tie.Need-returns-2
 unfolding versionAt
-returns-2 c = rw (c .before .copy .ensures) (sym (ap (versionAt _) (c .before .before .before .before .before .place .given .1)))
+returns-2 c = rw (c .before .copy .ensures, c .before .before .before .part .ensures) (sym (ap (versionAt _) (c .before .before .before .before .before .place .given .1)))
 
 pub version-at-spec : {M : Type 1} → statement M
 version-at-spec =
     tie.close
-    (tie.spec
-    enum-known-place
-    enum-told
-    returns
-    slice-aggregate-copy
-    sub-copy
-    part-copy-start
-    part-copy-end
-    copy-requires
-    sub-t11
-    returns-2)
+    (tie.spec enum-known-place enum-told returns part-requires slice-aggregate-copy copy-requires returns-2)

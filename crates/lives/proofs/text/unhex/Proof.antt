@@ -1,5 +1,5 @@
 -- `text::unhex` is safe and ends: a digit is below 16, and the place rises to the output's length.
-use Prim.Native.Nat.{_-_, _≤_}
+use Prim.Native.Nat.{_-_}
 use native.Mathlib.Omega.{arith}
 use lib.ListN.{length, length-set}
 use borrow.Author.Needs.{needs}

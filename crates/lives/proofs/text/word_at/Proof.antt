@@ -1,5 +1,5 @@
 -- `text::word_at` is safe and ends: the index rises to the length.
-use Prim.Native.Nat.{_-_, _≤_}
+use Prim.Native.Nat.{_-_}
 use lib.ListN.{length}
 use borrow.Author.Needs.{needs}
 use Rattle.lives.proofs.text.word_at.Statement.{statement}

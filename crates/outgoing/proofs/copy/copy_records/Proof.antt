@@ -11,10 +11,10 @@ use Rattle.outgoing.proofs.copy.copy_records.Statement.{statement}
 use Rattle.outgoing.proofs.copy.copy_records.Tie as tie
 
 abbrev Inv-loop : tie.InvT-loop
-Inv-loop s choice out₀ at end₀ cursor₀ out end cursor = Going out₀ at (copies s choice) out end (copiesAt s choice (cursor .at)) × (length out ≡ length out₀)
+Inv-loop s choice out₀ at end₀ start₀ out end start = Going out₀ at (copies s choice) out end (copiesAt s choice start) × (length out ≡ length out₀)
 
 abbrev μ-loop : tie.MeasureT-loop
-μ-loop s choice out₀ at end₀ cursor₀ out end cursor = length s - cursor .at
+μ-loop s choice out₀ at end₀ start₀ out end start = length s - start
 
 loop-holds : tie.Need-loop-holds Inv-loop μ-loop
 loop-holds c = (rw (copies-start _ _) (going-start _ _ _ (c .before .before .pre)), refl)
@@ -32,34 +32,34 @@ same-length : tie.Need-same-length Inv-loop μ-loop
 same-length c = search needs
 
 returns : tie.Need-returns Inv-loop μ-loop
-returns c = going-end (c .before .before .before .before .before .loop .inv .0) (copies-unreadable _ _ _ (c .before .before .before .if1 .taken) (sym (c .before .before .take-record .ensures) ∙ c .enum-told .given .1))
+returns c = going-end (c .before .before .before .before .loop .inv .0) (copies-unreadable _ _ _ (c .before .before .before .loop-test .taken) (sym (c .before .before .take-record .ensures) ∙ c .enum-told .given .1))
 
 is-chosen-requires : tie.Need-is-chosen-requires Inv-loop μ-loop
 is-chosen-requires c κs = search needs
 
 sub-copy-if : tie.Need-sub-copy-if Inv-loop μ-loop
-sub-copy-if c = let i = record-inside (c .before .before .before .before .before .before .before .before .before .before .args .s .now) (c .before .before .before .before .before .before .before .loop .cursor .at) _ (sym (c .before .before .before .before .take-record .ensures) ∙ c .before .before .r .given .1) in omega arith
+sub-copy-if c = let i = record-inside (c .before .before .before .before .before .before .before .before .before .args .s .now) (c .before .before .before .before .before .before .loop .start) _ (sym (c .before .before .before .before .take-record .ensures) ∙ c .before .before .r .given .1) in omega arith
 
 part-copy-if-start : tie.Need-part-copy-if-start Inv-loop μ-loop
-part-copy-if-start c = let i = record-inside (c .before .before .before .before .before .before .before .before .before .before .args .s .now) (c .before .before .before .before .before .before .before .loop .cursor .at) _ (sym (c .before .before .before .before .take-record .ensures) ∙ c .before .before .r .given .1) in omega arith
+part-copy-if-start c = let i = record-inside (c .before .before .before .before .before .before .before .before .before .args .s .now) (c .before .before .before .before .before .before .loop .start) _ (sym (c .before .before .before .before .take-record .ensures) ∙ c .before .before .r .given .1) in omega arith
 
 part-copy-if-end : tie.Need-part-copy-if-end Inv-loop μ-loop
-part-copy-if-end c = let i = record-inside (c .before .before .before .before .before .before .before .before .before .before .args .s .now) (c .before .before .before .before .before .before .before .loop .cursor .at) _ (sym (c .before .before .before .before .take-record .ensures) ∙ c .before .before .r .given .1) in omega arith
+part-copy-if-end c = let i = record-inside (c .before .before .before .before .before .before .before .before .before .args .s .now) (c .before .before .before .before .before .before .loop .start) _ (sym (c .before .before .before .before .take-record .ensures) ∙ c .before .before .r .given .1) in omega arith
 
 copy-if-requires : tie.Need-copy-if-requires Inv-loop μ-loop
-copy-if-requires c κs = going-most (c .before .before .before .before .before .before .before .before .before .loop .inv .0)
+copy-if-requires c κs = going-most (c .before .before .before .before .before .before .before .before .loop .inv .0)
 
 loop-less : tie.Need-loop-less Inv-loop μ-loop
-loop-less c = let i = record-inside (c .before .before .before .before .before .before .before .before .before .before .before .before .before .before .before .args .s .now) (c .before .before .before .before .before .before .before .before .before .before .before .before .loop .cursor .at) _ (sym (c .before .before .before .before .before .before .before .before .before .take-record .ensures) ∙ c .before .before .before .before .before .before .before .r .given .1) in omega arith
+loop-less c = let i = record-inside (c .before .before .before .before .before .before .before .before .before .before .before .before .before .before .args .s .now) (c .before .before .before .before .before .before .before .before .before .before .before .loop .start) _ (sym (c .before .before .before .before .before .before .before .before .before .take-record .ensures) ∙ c .before .before .before .before .before .before .before .r .given .1) in omega arith
 
 loop-again : tie.Need-loop-again Inv-loop μ-loop
-loop-again c = (going-record _ _ _ _ _ (sym (c .before .before .before .before .before .before .before .before .before .take-record .ensures) ∙ c .before .before .before .before .before .before .before .r .given .1) (c .before .before .before .before .before .is-chosen .ensures) (c .before .before .before .before .before .before .before .before .before .before .before .before .loop .inv .0) (c .before .before .copy-if .ensures), c .before .before .copy-if .ensures .kept ∙ c .before .before .before .before .before .before .before .before .before .before .before .before .loop .inv .1)
+loop-again c = (going-record _ _ _ _ _ (sym (c .before .before .before .before .before .before .before .before .before .take-record .ensures) ∙ c .before .before .before .before .before .before .before .r .given .1) (c .before .before .before .before .before .is-chosen .ensures) (c .before .before .before .before .before .before .before .before .before .before .before .loop .inv .0) (c .before .before .copy-if .ensures), c .before .before .copy-if .ensures .kept ∙ c .before .before .before .before .before .before .before .before .before .before .before .loop .inv .1)
 
 same-length-2 : tie.Need-same-length-2 Inv-loop μ-loop
 same-length-2 c = search needs
 
 returns-2 : tie.Need-returns-2 Inv-loop μ-loop
-returns-2 c = going-end (c .before .before .loop .inv .0) (copies-end _ _ _ (c .if1 .left))
+returns-2 c = going-end (c .before .loop .inv .0) (copies-end _ _ _ (c .loop-test .left))
 
 pub copy-records-spec : {M : Type 1} → statement M
 copy-records-spec =

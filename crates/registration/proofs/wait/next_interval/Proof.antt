@@ -43,7 +43,7 @@ use Rattle.schedule.specs.declared.Length.{Length}
 use Rattle.schedule.proofs.Length as L
 use Rattle.schedule.proofs.Length.Laws as L′
 use Rattle.registration.specs.declared.wait.Schedule.{Schedule}
-use Rattle.registration.specs.Backoff.{doubled, advancedOf}
+use Rattle.registration.specs.Backoff.{advancedOf}
 use Rattle.registration.proofs.Waits.{advanced-interval}
 use Rattle.registration.proofs.wait.Schedule as T
 use Rattle.registration.proofs.wait.Schedule.Laws as T′

@@ -1,4 +1,0 @@
-pub mod ReadLaws
-pub mod WriteLaws
-pub mod Theorems
-pub mod Sizes
