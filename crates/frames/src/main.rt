@@ -11,24 +11,19 @@ use coap::Frame;
 use coap::Next;
 use decimal::Ids;
 use libc::STDIN_FILENO;
-use libc::STDOUT_FILENO;
 use request::Path;
 use request::Query;
 use tlv::Taken;
 
-fn say(text: &[u8]) {
-    io::write_all(STDOUT_FILENO, text);
-}
-
 // A blank and a number.
 fn say_number(n: u64) {
-    say(b" ");
-    io::print_decimal(STDOUT_FILENO, n);
+    lines::word(b" ");
+    lines::number(n);
 }
 
 // A blank and bytes in hex.
 fn say_bytes(b: &[u8]) {
-    say(b" ");
+    lines::word(b" ");
     lines::hex(b);
 }
 
@@ -36,22 +31,16 @@ fn say_bytes(b: &[u8]) {
 fn say_code(code: u8) {
     let c = buffer::wide(code);
     say_number(c / 32);
-    say(b".");
-    io::print_decimal(STDOUT_FILENO, c % 32 / 10);
-    io::print_decimal(STDOUT_FILENO, c % 32 % 10);
+    lines::word(b".");
+    lines::number(c % 32 / 10);
+    lines::number(c % 32 % 10);
 }
 
 fn print_option(s: &[u8], o: CoapOption) {
-    let start = o.start;
-    let end = o.end;
-    if start <= end {
-        if end <= s.len() {
-            say(b"option");
-            say_number(o.number);
-            say_bytes(&s[start..end]);
-            say(b"\n");
-        }
-    }
+    lines::word(b"option");
+    say_number(o.number);
+    say_bytes(buffer::part(s, o.start, o.end));
+    lines::word(b"\n");
 }
 
 fn print_options(s: &[u8], from: usize) {
@@ -70,14 +59,14 @@ fn print_options(s: &[u8], from: usize) {
 fn print_path(path: Path) {
     match path {
         Path::All => {
-            say(b" path all");
+            lines::word(b" path all");
         }
         Path::Record(id) => {
-            say(b" path record");
+            lines::word(b" path record");
             say_number(id as u64);
         }
         Path::Other => {
-            say(b" path other");
+            lines::word(b" path other");
         }
     }
 }
@@ -86,7 +75,7 @@ fn print_ids(ids: Ids) {
     let list = ids.list;
     let n = ids.count;
     if n == 0 {
-        say(b" bad");
+        lines::word(b" bad");
     }
     let mut i = 0;
     while i < n {
@@ -99,33 +88,29 @@ fn print_ids(ids: Ids) {
 }
 
 fn print_query(s: &[u8], query: Query) {
-    say(b" query");
+    lines::word(b" query");
     match query {
         Query::Nothing => {
-            say(b" none");
+            lines::word(b" none");
         }
         Query::One(start, end) => {
-            if start <= end {
-                if end <= s.len() {
-                    print_ids(request::asked_ids(&s[start..end]));
-                }
-            }
+            print_ids(request::asked_ids(buffer::part(s, start, end)));
         }
         Query::Several => {
-            say(b" several");
+            lines::word(b" several");
         }
     }
 }
 
 fn print_request(s: &[u8], from: usize) {
     if request::refused(s, from) {
-        say(b"request refused");
+        lines::word(b"request refused");
     } else {
-        say(b"request taken");
+        lines::word(b"request taken");
     }
     print_path(request::request_path(s, from));
     print_query(s, request::request_query(s, from));
-    say(b"\n");
+    lines::word(b"\n");
 }
 
 // A request has a code of 0.01 to 0.31.
@@ -137,7 +122,7 @@ fn is_request(code: u8) -> bool {
 }
 
 fn print_frame(s: &[u8], f: Frame) {
-    say(b"frame");
+    lines::word(b"frame");
     say_number(f.kind as u64);
     say_code(f.code);
     say_number(f.id as u64);
@@ -145,7 +130,7 @@ fn print_frame(s: &[u8], f: Frame) {
     if payload <= s.len() {
         say_bytes(&s[payload..]);
     }
-    say(b"\n");
+    lines::word(b"\n");
     print_options(s, f.options);
     if is_request(f.code) {
         print_request(s, f.options);
@@ -158,37 +143,33 @@ fn print_datagram(s: &[u8]) {
             print_frame(s, f);
         }
         Datagram::Malformed(kind, id) => {
-            say(b"malformed");
+            lines::word(b"malformed");
             say_number(kind as u64);
             say_number(id as u64);
-            say(b"\n");
+            lines::word(b"\n");
         }
         Datagram::Foreign => {
-            say(b"foreign\n");
+            lines::word(b"foreign\n");
         }
     }
 }
 
-fn print_record(s: &[u8], start: usize, end: usize, kind: u64) {
-    if start <= end {
-        if end <= s.len() {
-            say(b"record");
-            say_number(kind);
-            say_number((end - start) as u64);
-            say(b"\n");
-            print_datagram(&s[start..end]);
-        }
-    }
+fn print_record(kind: u64, value: &[u8]) {
+    lines::word(b"record");
+    say_number(kind);
+    say_number(value.len() as u64);
+    lines::word(b"\n");
+    print_datagram(value);
 }
 
 fn print_records(s: &[u8]) {
     let mut at = 0;
     while at < s.len() {
         let Taken::Record(r) = tlv::take_record(s, at) else {
-            say(b"unreadable\n");
+            lines::word(b"unreadable\n");
             return;
         };
-        print_record(s, r.start, r.end, r.kind);
+        print_record(r.kind, buffer::part(s, r.start, r.end));
         at = r.end;
     }
 }

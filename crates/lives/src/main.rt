@@ -190,7 +190,7 @@ fn play(s: &[u8]) {
     let mut at = 0;
     while at < s.len() {
         let next = text::next_line(s, at);
-        state = play_line(state, &mut image, text::trimmed(text::part(s, at, next)));
+        state = play_line(state, &mut image, text::trimmed(buffer::part(s, at, next)));
         at = next;
     }
 }

@@ -18,16 +18,6 @@ pub(crate) fn next_line(s: &[u8], at: usize) -> usize
     i
 }
 
-// The part of a text from `start` up to `end`, as far as there is one.
-pub fn part(s: &[u8], start: usize, end: usize) -> &[u8] {
-    if start <= end {
-        if end <= s.len() {
-            return &s[start..end];
-        }
-    }
-    &s[..0]
-}
-
 // A line without its line feed.
 pub fn trimmed(line: &[u8]) -> &[u8] {
     let n = line.len();
@@ -48,7 +38,7 @@ pub fn stands(s: &[u8], at: usize, word: &[u8]) -> bool {
     if s.len() - at < word.len() {
         return false;
     }
-    buffer::same(part(s, at, at + word.len()), word)
+    buffer::same(buffer::part(s, at, at + word.len()), word)
 }
 
 // The letters from `at` up to the next blank.
@@ -56,11 +46,11 @@ fn word_at(s: &[u8], at: usize) -> &[u8] {
     let mut i = at;
     while i < s.len() {
         if s[i] == b' ' {
-            return part(s, at, i);
+            return buffer::part(s, at, i);
         }
         i += 1;
     }
-    part(s, at, i)
+    buffer::part(s, at, i)
 }
 
 // Where `word` first stands; the text's end where it does not.

@@ -24,14 +24,10 @@ fn show_record(kind: u64, v: &[u8]) {
     }
 }
 
-fn show_part(s: &[u8], kind: u64, start: usize, end: usize) {
+fn show_line(kind: u64, v: &[u8]) {
     lines::number(kind);
     lines::word(b" ");
-    if start <= end {
-        if end <= s.len() {
-            show_record(kind, &s[start..end]);
-        }
-    }
+    show_record(kind, v);
     lines::word(b"\n");
 }
 
@@ -42,7 +38,7 @@ fn show_records(s: &[u8]) {
             lines::word(b"unreadable\n");
             return;
         };
-        show_part(s, r.kind, r.start, r.end);
+        show_line(r.kind, buffer::part(s, r.start, r.end));
         at = r.end;
     }
 }

@@ -29,11 +29,7 @@ fn bytes(v: &[u8], place: Bytes) {
         lines::word(b"-");
         return;
     };
-    if start <= end {
-        if end <= v.len() {
-            hex(&v[start..end]);
-        }
-    }
+    hex(buffer::part(v, start, end));
 }
 
 fn given(n: Number) {

@@ -62,14 +62,7 @@ fn act(state: State, image: &mut [u8; 4096], store: &[u8], kind: u64, v: &[u8]) 
 
 // A record's value.
 fn value(s: &[u8], r: Record) -> &[u8] {
-    let start = r.start;
-    let end = r.end;
-    if start <= end {
-        if end <= s.len() {
-            return &s[start..end];
-        }
-    }
-    &s[..0]
+    buffer::part(s, r.start, r.end)
 }
 
 // The record that holds the store, behind the record `r`.

@@ -26,11 +26,11 @@ enum-known-f c = search needs
 enum-told : tie.Need-enum-told Inv-loop μ-loop
 enum-told c = search needs
 
-slice-aggregate-write-all : tie.Need-slice-aggregate-write-all Inv-loop μ-loop
-slice-aggregate-write-all c = search needs
+slice-aggregate-word : tie.Need-slice-aggregate-word Inv-loop μ-loop
+slice-aggregate-word c = search needs
 
-write-all-requires : tie.Need-write-all-requires Inv-loop μ-loop
-write-all-requires c κs = search needs
+word-requires : tie.Need-word-requires Inv-loop μ-loop
+word-requires c κs = search needs
 
 returns : tie.Need-returns Inv-loop μ-loop
 returns c = search needs
@@ -59,8 +59,8 @@ print-message-spec =
     field-at-requires
     enum-known-f
     enum-told
-    slice-aggregate-write-all
-    write-all-requires
+    slice-aggregate-word
+    word-requires
     returns
     print-field-requires
     loop-less

@@ -26,22 +26,25 @@ enum-known-r c = search needs
 enum-told : tie.Need-enum-told Inv-loop μ-loop
 enum-told c = search needs
 
-slice-aggregate-write-all : tie.Need-slice-aggregate-write-all Inv-loop μ-loop
-slice-aggregate-write-all c = search needs
+slice-aggregate-word : tie.Need-slice-aggregate-word Inv-loop μ-loop
+slice-aggregate-word c = search needs
 
-write-all-requires : tie.Need-write-all-requires Inv-loop μ-loop
-write-all-requires c κs = search needs
+word-requires : tie.Need-word-requires Inv-loop μ-loop
+word-requires c κs = search needs
 
 returns : tie.Need-returns Inv-loop μ-loop
 returns c = search needs
+
+part-requires : tie.Need-part-requires Inv-loop μ-loop
+part-requires c κs = search needs
 
 print-record-requires : tie.Need-print-record-requires Inv-loop μ-loop
 print-record-requires c κs = search needs
 
 loop-less : tie.Need-loop-less Inv-loop μ-loop
 loop-less c =
-    let l = c .before .before .before .before .before .before .loop in
-    omega (arith, c .before .before .before .before .before .loop-test .taken, record-inside _ (l .at) _ (sym (c .before .before .before .before .take-record .ensures) ∙ c .before .before .r .given .1))
+    let l = c .before .before .before .before .before .before .before .loop in
+    omega (arith, c .before .before .before .before .before .before .loop-test .taken, record-inside _ (l .at) _ (sym (c .before .before .before .before .before .take-record .ensures) ∙ c .before .before .before .r .given .1))
 
 loop-again : tie.Need-loop-again Inv-loop μ-loop
 loop-again c = search needs
@@ -59,9 +62,10 @@ print-records-spec =
     take-record-requires
     enum-known-r
     enum-told
-    slice-aggregate-write-all
-    write-all-requires
+    slice-aggregate-word
+    word-requires
     returns
+    part-requires
     print-record-requires
     loop-less
     loop-again

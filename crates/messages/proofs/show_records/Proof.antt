@@ -35,13 +35,16 @@ word-requires c κs = search needs
 returns : tie.Need-returns Inv-loop μ-loop
 returns c = search needs
 
-show-part-requires : tie.Need-show-part-requires Inv-loop μ-loop
-show-part-requires c κs = search needs
+part-requires : tie.Need-part-requires Inv-loop μ-loop
+part-requires c κs = search needs
+
+show-line-requires : tie.Need-show-line-requires Inv-loop μ-loop
+show-line-requires c κs = search needs
 
 loop-less : tie.Need-loop-less Inv-loop μ-loop
 loop-less c =
-    let l = c .before .before .before .before .before .before .loop in
-    omega (arith, c .before .before .before .before .before .loop-test .taken, record-inside _ (l .at) _ (sym (c .before .before .before .before .take-record .ensures) ∙ c .before .before .r .given .1))
+    let l = c .before .before .before .before .before .before .before .loop in
+    omega (arith, c .before .before .before .before .before .before .loop-test .taken, record-inside _ (l .at) _ (sym (c .before .before .before .before .before .take-record .ensures) ∙ c .before .before .before .r .given .1))
 
 loop-again : tie.Need-loop-again Inv-loop μ-loop
 loop-again c = search needs
@@ -62,7 +65,8 @@ show-records-spec =
     slice-aggregate-word
     word-requires
     returns
-    show-part-requires
+    part-requires
+    show-line-requires
     loop-less
     loop-again
     returns-2)
