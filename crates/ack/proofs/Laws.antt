@@ -1,11 +1,11 @@
 -- Laws of an acknowledgement: what each test of the code says of the definitions.
-use Prim.Native.Nat.{ℕ, _+_, _-_, _≤_, _<_}
+use Prim.Native.Nat.{ℕ, _-_, _≤_, _<_}
 use mathlib.Core.Path.{_≡_}
 use mathlib.Core.List.{List, map}
 use mathlib.Core.Bool.{Bool, true, false, not}
 use borrow.Author.Tests.{le-leb, lt-leb, ne-eqb}
 use lib.Dec.{eqb}
-use lib.ListN.{length, take, drop, set}
+use lib.ListN.{length, take, drop}
 use Rattle.decode.specs.Read.{sessionOf, reportOf, groupOf}
 use Rattle.decode.specs.declared.Group.{Group}
 use Rattle.decode.specs.declared.Report.{Report}
@@ -27,7 +27,7 @@ use Rattle.tlv.specs.declared.Record.{Record}
 use Rattle.tlv.specs.declared.Taken.the-variants.{Record as Whole, Unreadable}
 use Rattle.tlv.proofs.Laws.{records-end, records-more, records-unreadable}
 use Rattle.buffer.specs.Pick.{pick}
-use Rattle.ack.specs.Learn.{nothingLearnt, marked, withAssigned, redirectNoted, sessionIdOf, withSession, sessionNoted, withReport, reportNoted, pushed, withGroup, groupNoted, validityNoted, signatureNoted, noted, learntOf, learntFrom}
+use Rattle.ack.specs.Learn.{nothingLearnt, marked, withAssigned, redirectNoted, sessionIdOf, withSession, sessionNoted, withReport, reportNoted, withPair, pushed, withGroup, groupNoted, validityNoted, signatureNoted, noted, learntOf, learntFrom}
 use Rattle.ack.specs.Take.{isAwaited, isTakable, withGroups, regrouped, acceptedBy, takenBy, acknowledged}
 use Rattle.ack.specs.declared.note.Learnt.{Learnt}
 
@@ -37,16 +37,7 @@ module _ (l : Learnt) (kind id : ℕ) where
   unfolding pushed
   pushed-full h = rw (le-leb 8 (l .groups .count) h)
 
-  pub pushed-more : l .groups .count < 8
-      → pushed l kind id ≡ record {
-        readable = l .readable;
-        signed = l .signed;
-        expired = l .expired;
-        redirected = l .redirected;
-        registration = l .registration;
-        assigned = l .assigned;
-        groups = record { list = set (l .groups .list) (l .groups .count) (record { kind = kind; id = id }); count = l .groups .count + 1 };
-      }
+  pub pushed-more : l .groups .count < 8 → pushed l kind id ≡ withPair l kind id
   unfolding pushed
   pushed-more h = rw (lt-leb 8 (l .groups .count) h)
 

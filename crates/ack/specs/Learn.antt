@@ -116,10 +116,9 @@ unfoldable pub reportNoted : Learnt → List ℕ → Learnt
 reportNoted l v = marked (withAssigned l (withReport (l .assigned) v)) (reportOf v .readable)
 
 -- 55: the complete ones in order; over 8 make it unreadable
-unfoldable pub pushed : Learnt → ℕ → ℕ → Learnt
-pushed l kind id =
-    pick (leb 8 (l .groups .count)) (marked l false)
-    (record {
+abbrev pub withPair : Learnt → ℕ → ℕ → Learnt
+withPair l kind id =
+    record {
       readable = l .readable;
       signed = l .signed;
       expired = l .expired;
@@ -127,7 +126,10 @@ pushed l kind id =
       registration = l .registration;
       assigned = l .assigned;
       groups = record { list = set (l .groups .list) (l .groups .count) (record { kind = kind; id = id }); count = l .groups .count + 1 };
-    })
+    }
+
+unfoldable pub pushed : Learnt → ℕ → ℕ → Learnt
+pushed l kind id = pick (leb 8 (l .groups .count)) (marked l false) (withPair l kind id)
 
 abbrev pub grouped : Learnt → Number → Number → Learnt
 grouped l Absent id = l

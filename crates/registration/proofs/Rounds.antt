@@ -7,7 +7,7 @@ use Rattle.schedule.specs.declared.Length.{Length}
 use Rattle.state.specs.declared.Device.{Device}
 use Rattle.state.specs.declared.Registration.{Registration}
 use Rattle.registration.specs.Backoff.{doubled}
-use Rattle.registration.specs.Round.{nextId, idTaken, roundTaken}
+use Rattle.registration.specs.Round.{withId, nextId, idTaken, roundTaken}
 
 pub id-wraps : (id : ℕ) → id ≡ 65535 → 0 ≡ nextId id
 unfolding nextId
@@ -30,16 +30,7 @@ withRound t id i =
       «message_id» = t .«message_id»;
     }
 
-pub id-taken : (r : Registration) (id : ℕ) → id ≡ nextId (r .«message_id»)
-    → record {
-      accepted = r .accepted;
-      awaited = r .awaited;
-      round = r .round;
-      interval = r .interval;
-      immediate = r .immediate;
-      url = r .url;
-      «message_id» = id;
-    } ≡ idTaken r
+pub id-taken : (r : Registration) (id : ℕ) → id ≡ nextId (r .«message_id») → withId r id ≡ idTaken r
 unfolding idTaken
 id-taken r id e = rw e
 

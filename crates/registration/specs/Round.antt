@@ -10,8 +10,8 @@ unfoldable pub nextId : ℕ → ℕ
 nextId id = (id + 1) % 65536
 
 -- each own datagram takes the message id
-unfoldable pub idTaken : Registration → Registration
-idTaken r =
+abbrev pub withId : Registration → ℕ → Registration
+withId r id =
     record {
       accepted = r .accepted;
       awaited = r .awaited;
@@ -19,8 +19,11 @@ idTaken r =
       interval = r .interval;
       immediate = r .immediate;
       url = r .url;
-      «message_id» = nextId (r .«message_id»);
+      «message_id» = id;
     }
+
+unfoldable pub idTaken : Registration → Registration
+idTaken r = withId r (nextId (r .«message_id»))
 
 -- a round is awaited under its id; the interval then doubles and stops at the largest
 unfoldable pub roundTaken : Device → Registration → Registration
