@@ -1,6 +1,1 @@
 pub mod Laws
-pub mod OwnLaws
-pub mod OwnSizes
-pub mod AckSizes
-pub mod Sizes
-pub mod Merges

@@ -1,7 +1,1 @@
-pub mod Class
-pub mod Datagram
-pub mod Own
-pub mod Boot
-pub mod Complete
-pub mod Made
-pub mod Merge
+pub mod Left

@@ -1,5 +1,5 @@
 -- `agent::boot` meets its contract: part by part.
-use Rattle.agent.specs.Boot.{bootOf}
+use Rattle.calls.specs.Boot.{bootOf}
 use borrow.Author.Needs.{needs}
 use Rattle.agent.proofs.boot.Statement.{statement}
 use Rattle.agent.proofs.boot.Tie as tie

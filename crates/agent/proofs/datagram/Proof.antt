@@ -1,7 +1,8 @@
 -- `agent::datagram` meets its contract: refusals, then the frame.
 use mathlib.Core.Path.{sym, _∙_}
-use Rattle.agent.specs.Datagram.{Call, refusal}
-use Rattle.agent.proofs.Laws.{room, call-refused, call-foreign, call-malformed, call-framed}
+use Rattle.calls.specs.Datagram.{Call, refusal}
+use Rattle.refusal.proofs.Laws.{room}
+use Rattle.agent.proofs.Laws.{call-refused, call-foreign, call-malformed, call-framed}
 use borrow.Author.Needs.{needs}
 use Rattle.agent.proofs.datagram.Statement.{statement}
 use Rattle.agent.proofs.datagram.Tie as tie
@@ -10,15 +11,15 @@ use Rattle.agent.proofs.datagram.Tie as tie
 abbrev inputs : tie.Start → Call
 inputs s = record { out = s .args .out .now; bytes = s .args .bytes .now; store = s .args .store .now; time = s .args .time; verdict = s .args .verdict }
 
-refusal-requires : tie.Need-refusal-requires
-refusal-requires c κs = search needs
+datagram-refusal-requires : tie.Need-datagram-refusal-requires
+datagram-refusal-requires c κs = search needs
 
 silent-requires : tie.Need-silent-requires
 silent-requires c κs = search needs
 
 returns : tie.Need-returns
 unfolding refusal
-returns c = call-refused _ _ (inputs (c .before .before .before .before .before .before .before)) (c .before .before .refusal .ensures) (c .before .if1 .taken) (c .silent .ensures)
+returns c = call-refused _ _ (inputs (c .before .before .before .before .before .before .before)) (c .before .before .datagram-refusal .ensures) (c .before .if1 .taken) (c .silent .ensures)
 
 read-requires : tie.Need-read-requires
 read-requires c κs = search needs
@@ -33,24 +34,24 @@ enum-known-kind : tie.Need-enum-known-kind
 enum-known-kind c = search needs
 
 refuse-format-requires : tie.Need-refuse-format-requires
-refuse-format-requires c κs = room _ _ _ _ _ _ (sym (c .before .before .before .before .before .before .refusal .ensures) ∙ c .before .before .before .before .before .if1 .left)
+refuse-format-requires c κs = room _ _ _ _ _ _ (sym (c .before .before .before .before .before .before .datagram-refusal .ensures) ∙ c .before .before .before .before .before .if1 .left)
 
 enum-known-frame : tie.Need-enum-known-frame
 enum-known-frame c = search needs
 
 receive-requires : tie.Need-receive-requires
-receive-requires c κs = (room _ _ _ _ _ _ (sym (c .before .before .before .before .before .before .before .refusal .ensures) ∙ c .before .before .before .before .before .before .if1 .left), sym (c .before .before .before .before .before .read .ensures) ∙ c .before .before .before .frame .given .1)
+receive-requires c κs = room _ _ _ _ _ _ (sym (c .before .before .before .before .before .before .before .datagram-refusal .ensures) ∙ c .before .before .before .before .before .before .if1 .left)
 
 returns-2 : tie.Need-returns-2
 unfolding refusal
-returns-2 c = call-foreign _ _ (inputs (c .before .before .before .before .before .before .before .before .before .before)) (c .before .before .before .before .before .refusal .ensures) (c .before .before .before .before .if1 .left) (c .before .before .before .read .ensures) (c .before .enum-told .given .1) (c .silent2 .ensures)
+returns-2 c = call-foreign _ _ (inputs (c .before .before .before .before .before .before .before .before .before .before)) (c .before .before .before .before .before .datagram-refusal .ensures) (c .before .before .before .before .if1 .left) (c .before .before .before .read .ensures) (c .before .enum-told .given .1) (c .silent2 .ensures)
 
 same-length : tie.Need-same-length
 same-length c = search needs
 
 returns-3 : tie.Need-returns-3
 unfolding refusal
-returns-3 c = call-malformed _ _ (inputs (c .before .before .before .before .before .before .before .before .before .before .before .before .before .before)) (c .before .before .before .before .before .before .before .before .before .refusal .ensures) (c .before .before .before .before .before .before .before .before .if1 .left) (c .before .before .before .before .before .before .before .read .ensures) (c .before .before .before .before .before .kind .given .1) (c .before .before .refuse-format .ensures)
+returns-3 c = call-malformed _ _ (inputs (c .before .before .before .before .before .before .before .before .before .before .before .before .before .before)) (c .before .before .before .before .before .before .before .before .before .datagram-refusal .ensures) (c .before .before .before .before .before .before .before .before .if1 .left) (c .before .before .before .before .before .before .before .read .ensures) (c .before .before .before .before .before .kind .given .1) (c .before .before .refuse-format .ensures)
 
 same-length-2 : tie.Need-same-length-2
 same-length-2 c = search needs
@@ -60,13 +61,13 @@ same-length-3 c = search needs
 
 returns-4 : tie.Need-returns-4
 unfolding refusal
-returns-4 c = call-framed _ _ (inputs (c .before .before .before .before .before .before .before .before .before .before .before .before .before .before .before .before .before)) (c .before .before .before .before .before .before .before .before .before .before .before .before .refusal .ensures) (c .before .before .before .before .before .before .before .before .before .before .before .if1 .left) (c .before .before .before .before .before .before .before .before .before .before .read .ensures) (c .before .before .before .before .before .before .before .before .frame .given .1) (c .before .before .before .before .receive .ensures)
+returns-4 c = call-framed _ _ (inputs (c .before .before .before .before .before .before .before .before .before .before .before .before .before .before .before .before .before)) (c .before .before .before .before .before .before .before .before .before .before .before .before .datagram-refusal .ensures) (c .before .before .before .before .before .before .before .before .before .before .before .if1 .left) (c .before .before .before .before .before .before .before .before .before .before .read .ensures) (c .before .before .before .before .before .before .before .before .frame .given .1) (c .before .before .before .before .receive .ensures)
 
 pub datagram-spec : {M : Type 1} → statement M
 datagram-spec =
     tie.close
     (tie.spec
-    refusal-requires
+    datagram-refusal-requires
     silent-requires
     returns
     read-requires

@@ -1,24 +1,17 @@
--- `agent::refuse_format` meets its contract: a reset for a CON, else silence.
-use Rattle.agent.proofs.Laws.{sent-silent, malformed-con, malformed-other}
+-- `agent::refuse_format` meets its contract: a reset fits.
+use Rattle.agent.proofs.Laws.{sent-format}
 use borrow.Author.Needs.{needs}
 use Rattle.agent.proofs.refuse_format.Statement.{statement}
 use Rattle.agent.proofs.refuse_format.Tie as tie
 
-silent-requires : tie.Need-silent-requires
-silent-requires c κs = search needs
-
-returns : tie.Need-returns
-returns c = rw (malformed-other _ _ (c .before .if1 .taken)) (sent-silent (c .silent .ensures))
-
-reset-requires : tie.Need-reset-requires
-reset-requires c κs = search needs
+put-reset-requires : tie.Need-put-reset-requires
+put-reset-requires c κs = search needs
 
 same-length : tie.Need-same-length
 same-length c = search needs
 
-returns-2 : tie.Need-returns-2
-returns-2 c = rw (malformed-con _ _ (c .before .before .before .before .if1 .left)) (c .before .before .reset .ensures)
+returns : tie.Need-returns
+returns c = sent-format _ _ (c .before .before .before .before .before .pre) (c .before .before .put-reset .ensures)
 
 pub refuse-format-spec : {M : Type 1} → statement M
-refuse-format-spec =
-    tie.close (tie.spec silent-requires returns reset-requires same-length returns-2)
+refuse-format-spec = tie.close (tie.spec put-reset-requires same-length returns)

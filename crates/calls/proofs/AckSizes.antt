@@ -1,0 +1,230 @@
+-- An acknowledgement that is taken keeps the sizes; redirects, which posts bring too.
+use Prim.Native.Nat.{ℕ, _-_, _≤_}
+use mathlib.Core.Path.{_≡_}
+use mathlib.Core.List.{List, [], _∷_}
+use mathlib.Core.Bool.{Bool, true, false, not, _&&_}
+use mathlib.Core.Option.{Option, none, some}
+use native.Mathlib.Omega.{arith}
+use borrow.Author.Tests.{leb-true, leb-false}
+use lib.Dec.{eqb, leb}
+use lib.ListN.{length, length-take}
+use Rattle.ack.specs.Learn.{nothingLearnt, marked, redirectNoted, sessionIdOf, inSession, withSession, sessionNoted, withReport, reportNoted, pushed, grouped, withGroup, groupNoted, validityNoted, signatureNoted, noted, learntOf, learntFrom}
+use Rattle.ack.specs.Take.{isAwaited, isTakable, regrouped, acceptedBy, takenBy, acknowledged}
+use Rattle.ack.specs.declared.note.Learnt.{Learnt}
+use Rattle.buffer.proofs.Tests.{pick-both, both}
+use Rattle.decode.specs.Read.{atMost, plain, redirectOf, sessionOf, withId, withEntry, withField, withFields, listedIn, reportOf, groupOf, validityOf}
+use Rattle.decimal.specs.Decimal.{idOf}
+use Rattle.decimal.specs.Ids.{noIds, pushed as listed}
+use Rattle.decimal.specs.declared.Id.{Id}
+use Rattle.decimal.specs.declared.Id.the-variants.{Given as Spells, Nothing}
+use Rattle.decimal.specs.declared.Ids.{Ids}
+use Rattle.post.specs.Judge.{badlySigned}
+use Rattle.protobuf.specs.Field.{fields, bytesOf}
+use Rattle.protobuf.specs.Find.{bytesIn}
+use Rattle.protobuf.specs.Statements.{IfAny, bytesGiven}
+use Rattle.protobuf.specs.declared.Bytes.{Bytes}
+use Rattle.protobuf.specs.declared.Bytes.the-variants.{At, Absent}
+use Rattle.protobuf.specs.declared.Field.{Field}
+use Rattle.protobuf.specs.declared.Number.{Number}
+use Rattle.protobuf.specs.declared.Number.the-variants.{Given, Absent as NoNumber}
+use Rattle.registration.specs.Redirect.{restarted, isSet, follow, urlIn, redirected}
+use Rattle.schedule.specs.declared.Point.{Point}
+use Rattle.state.specs.Setup.{urlOf}
+use Rattle.state.specs.declared.Assigned.{Assigned}
+use Rattle.state.specs.declared.Device.{Device}
+use Rattle.state.specs.declared.Registration.{Registration}
+use Rattle.state.specs.declared.State.{State}
+use Rattle.tlv.specs.Record.{Tlv, records, readable}
+use Rattle.calls.specs.Made.{DeviceSized, AssignedSized, RegistrationSized, Sized}
+
+-- bytes over their size make a value unreadable
+bytes-short : (n : ℕ) (v : List ℕ) (b : Bytes) → atMost n b ≡ true → IfAny (λ (l : List ℕ). length l ≤ n) (bytesGiven v b)
+unfolding atMost
+bytes-short n v (At start stop) h =
+    let k = leb-true (stop - start) n h in
+    simp length-take (omega arith)
+bytes-short n v Absent h = tt
+
+-- record 6
+module _ (d : Device) (r : Registration) (k : DeviceSized d) (s : RegistrationSized d r) where
+  follow-sized : (url : Option (List ℕ)) (immediate : Bool) → IfAny (λ (l : List ℕ). length l ≤ 128) url
+      → RegistrationSized d (follow d r url immediate)
+  unfolding follow restarted urlOf
+  follow-sized none immediate h = s
+  follow-sized (some []) immediate h = s
+  follow-sized (some (b ∷ bs)) immediate h = record { url = (omega arith, h); interval = (omega arith, k .low .1) }
+
+  pub redirect-sized : (v : List ℕ) → redirectOf v .readable ≡ true → RegistrationSized d (redirected d r v)
+  unfolding redirected urlIn redirectOf
+  redirect-sized v h =
+      let t = both (plain v) (atMost 128 (bytesIn v 1)) h in
+      follow-sized (bytesGiven v (bytesIn v 1)) (isSet (redirectOf v .immediate)) (bytes-short 128 v (bytesIn v 1) (t .1))
+
+-- record 7
+in-session-sized : (a : Assigned) → AssignedSized a → (id : Option (List ℕ)) → IfAny (λ (l : List ℕ). length l ≤ 64) id → AssignedSized (inSession a id)
+unfolding sessionIdOf
+in-session-sized a s none h = s
+in-session-sized a s (some id) h = record { groups = s .groups; session = h; ids = s .ids; heartbeat = s .heartbeat }
+
+session-sized : (a : Assigned) → AssignedSized a → (v : List ℕ) → sessionOf v .readable ≡ true → AssignedSized (withSession a v)
+unfolding withSession sessionOf
+session-sized a s v h =
+    let t = both (plain v) (atMost 64 (bytesIn v 1)) h in
+    in-session-sized a s (bytesGiven v (bytesIn v 1)) (bytes-short 64 v (bytesIn v 1) (t .1))
+
+-- record 13: a list takes 32 ids and no more
+abbrev Few : Ids → Type 0
+Few ids = ids .count ≤ 32
+
+few-pushed : (ids : Ids) (x : ℕ) → Few ids → Few (listed ids x)
+unfolding listed
+few-pushed ids x h =
+    pick-both Few (leb 32 (ids .count)) _ _ (λ e. h)
+    (λ e. let l = leb-false 32 (ids .count) e in omega arith)
+
+few-id : (ids : Ids) (i : Id) → Few ids → Few (withId ids i)
+unfolding withId
+few-id ids (Spells x) h = few-pushed ids x h
+few-id ids Nothing h = h
+
+module _ (v : List ℕ) (n : ℕ) where
+  few-field : (ids : Ids) (f : Field) → Few ids → Few (withField v n ids f)
+  unfolding withField withEntry
+  few-field ids f h =
+      pick-both Few (eqb (f .number) n) _ _
+      (λ _. pick-both Few (eqb (f .wire) 2) _ _ (λ _. few-id ids (idOf (bytesOf v f)) h) (λ _. h)) (λ _. h)
+
+  few-fields : (ids : Ids) (fs : List Field) → Few ids → Few (withFields v n ids fs)
+  unfolding withFields
+  few-fields ids [] h = h
+  few-fields ids (f ∷ fs) h = few-fields (withField v n ids f) fs (few-field ids f h)
+
+  few-listed : Few (listedIn v n)
+  unfolding listedIn
+  few-listed = few-fields noIds (fields v .items) (omega arith)
+
+report-sized : (a : Assigned) → AssignedSized a → (v : List ℕ) → AssignedSized (withReport a v)
+unfolding withReport reportOf
+report-sized a s v = record { groups = s .groups; session = s .session; ids = few-listed v 2; heartbeat = few-listed v 4 }
+
+-- what an acknowledgement says is sized as long as it can be read
+record LearntSized (d : Device) (l : Learnt) : Type 0 where
+  registration : RegistrationSized d (l .registration)
+  assigned : AssignedSized (l .assigned)
+  groups : l .groups .count ≤ 8
+
+abbrev Learns : Device → Learnt → Type 0
+Learns d l = l .readable ≡ true → LearntSized d l
+
+module _ (d : Device) (k : DeviceSized d) where
+  marked-sized : (l : Learnt) (b : Bool) → Learns d l → Learns d (marked l b)
+  marked-sized l b h e =
+      let s = h (both (l .readable) b e .0) in
+      record { registration = s .registration; assigned = s .assigned; groups = s .groups }
+
+  redirect-noted : (l : Learnt) (v : List ℕ) → Learns d l → Learns d (redirectNoted d l v)
+  unfolding redirectNoted
+  redirect-noted l v h e =
+      let t = both (l .readable) (redirectOf v .readable) e in
+      let s = h (t .0) in
+      record { registration = redirect-sized d (l .registration) k (s .registration) v (t .1); assigned = s .assigned; groups = s .groups }
+
+  session-noted : (l : Learnt) (v : List ℕ) → Learns d l → Learns d (sessionNoted l v)
+  unfolding sessionNoted
+  session-noted l v h e =
+      let t = both (l .readable) (sessionOf v .readable) e in
+      let s = h (t .0) in
+      record { registration = s .registration; assigned = session-sized (l .assigned) (s .assigned) v (t .1); groups = s .groups }
+
+  report-noted : (l : Learnt) (v : List ℕ) → Learns d l → Learns d (reportNoted l v)
+  unfolding reportNoted
+  report-noted l v h e =
+      let s = h (both (l .readable) (reportOf v .readable) e .0) in
+      record { registration = s .registration; assigned = report-sized (l .assigned) (s .assigned) v; groups = s .groups }
+
+  -- record 55: 8 groups and no more
+  pushed-sized : (l : Learnt) (kind id : ℕ) → Learns d l → Learns d (pushed l kind id)
+  unfolding pushed
+  pushed-sized l kind id h =
+      pick-both (Learns d) (leb 8 (l .groups .count)) _ _ (λ _. marked-sized l false h)
+      (λ f e. let s = h e in
+      let g = leb-false 8 (l .groups .count) f in
+      record { registration = s .registration; assigned = s .assigned; groups = omega arith })
+
+  grouped-sized : (l : Learnt) (kind id : Number) → Learns d l → Learns d (grouped l kind id)
+  grouped-sized l NoNumber id h = h
+  grouped-sized l (Given kind) NoNumber h = h
+  grouped-sized l (Given kind) (Given id) h = pushed-sized l kind id h
+
+  group-noted : (l : Learnt) (v : List ℕ) → Learns d l → Learns d (groupNoted l v)
+  unfolding groupNoted withGroup
+  group-noted l v h =
+      marked-sized (withGroup l (groupOf v)) (groupOf v .readable) (grouped-sized l (groupOf v .kind) (groupOf v .id) h)
+
+  validity-noted : (l : Learnt) (v : List ℕ) (time : Point) → Learns d l → Learns d (validityNoted l v time)
+  unfolding validityNoted
+  validity-noted l v time h e =
+      let s = h (both (l .readable) (validityOf v .readable) e .0) in
+      record { registration = s .registration; assigned = s .assigned; groups = s .groups }
+
+  signature-noted : (l : Learnt) (v : List ℕ) → Learns d l → Learns d (signatureNoted l v)
+  unfolding signatureNoted
+  signature-noted l v h e =
+      let s = h (both (l .readable) (plain v) e .0) in
+      record { registration = s .registration; assigned = s .assigned; groups = s .groups }
+
+  noted-sized : (time : Point) (l : Learnt) (n : ℕ) (v : List ℕ) → Learns d l → Learns d (noted d time l n v)
+  unfolding noted
+  noted-sized time l n v h =
+      pick-both (Learns d) (eqb n 6) _ _ (λ _. redirect-noted l v h)
+      (λ _. pick-both (Learns d) (eqb n 7) _ _ (λ _. session-noted l v h)
+      (λ _. pick-both (Learns d) (eqb n 13) _ _ (λ _. report-noted l v h)
+      (λ _. pick-both (Learns d) (eqb n 55) _ _ (λ _. group-noted l v h)
+      (λ _. pick-both (Learns d) (eqb n 76) _ _ (λ _. validity-noted l v time h)
+      (λ _. pick-both (Learns d) (eqb n 77) _ _ (λ _. signature-noted l v h) (λ _. h))))))
+
+  learnt-sized : (time : Point) (l : Learnt) (ts : List Tlv) → Learns d l → Learns d (learntOf d time l ts)
+  unfolding learntOf
+  learnt-sized time l [] h = h
+  learnt-sized time l (t ∷ ts) h = learnt-sized time (noted d time l (t .kind) (t .value)) ts (noted-sized time l (t .kind) (t .value) h)
+
+  from-sized : (r : Registration) (a : Assigned) (time : Point) (p : List ℕ) → RegistrationSized d r → AssignedSized a → Learns d (learntFrom d r a time p)
+  unfolding learntFrom
+  from-sized r a time p x y =
+      let h = learnt-sized time (nothingLearnt r a) (records p) (λ _. record { registration = x; assigned = y; groups = omega arith }) in
+      pick-both (Learns d) (readable p) _ _ (λ _. h) (λ _. marked-sized (learntOf d time (nothingLearnt r a) (records p)) false h)
+
+-- an acknowledgement, taken or not
+regrouped-sized : (d : Device) (l : Learnt) → LearntSized d l → AssignedSized (regrouped l)
+unfolding regrouped
+regrouped-sized d l h =
+    let a = h .assigned in
+    pick-both AssignedSized (eqb (l .groups .count) 0) _ _ (λ _. a)
+    (λ _. record { groups = h .groups; session = a .session; ids = a .ids; heartbeat = a .heartbeat })
+
+module _ (s : State) (sized : Sized s) where
+  taken-sized : (l : Learnt) → LearntSized (s .device) l → Sized (takenBy s l)
+  unfolding takenBy acceptedBy
+  taken-sized l h =
+      pick-both Sized (l .redirected) _ _
+      (λ _. record { device = sized .device; images = sized .images; assigned = sized .assigned; registration = h .registration })
+      (λ _. record {
+        device = sized .device;
+        images = sized .images;
+        assigned = regrouped-sized (s .device) l h;
+        registration = record { url = sized .registration .url; interval = sized .registration .interval };
+      })
+
+  takable-readable : (l : Learnt) (verdict : ℕ) (required : Bool) → isTakable l verdict required ≡ true → l .readable ≡ true
+  unfolding isTakable
+  takable-readable l verdict required h =
+      both (l .readable) (not (badlySigned (l .signed) verdict required) && not (l .expired)) h .0
+
+  pub acknowledged-sized : (id : ℕ) (p : List ℕ) (time : Point) (verdict : ℕ) → Sized (acknowledged s id p time verdict)
+  unfolding acknowledged
+  acknowledged-sized id p time verdict =
+      let l : Learnt = learntFrom (s .device) (s .registration) (s .assigned) time p in
+      let h = from-sized (s .device) (sized .device) (s .registration) (s .assigned) time p (sized .registration) (sized .assigned) in
+      pick-both Sized (isAwaited (s .registration) id) _ _
+      (λ _. pick-both Sized (isTakable l verdict (s .device .«signed_responses»)) _ _
+      (λ e. taken-sized l (h (takable-readable l verdict (s .device .«signed_responses») e))) (λ _. sized)) (λ _. sized)

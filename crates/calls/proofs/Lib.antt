@@ -1,0 +1,4 @@
+pub mod OwnSizes
+pub mod AckSizes
+pub mod Sizes
+pub mod Merges

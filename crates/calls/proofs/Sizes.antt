@@ -1,0 +1,390 @@
+-- Every state that setup and calls make is sized.
+use Prim.Native.Nat.{ℕ, zero, suc, _-_, _/_, _%_, _≤_}
+use mathlib.Core.Path.{_≡_, refl, sym, ap, _∙_}
+use mathlib.Core.List.{List, [], _∷_}
+use mathlib.Core.Bool.{Bool, true, false, not, _&&_, _||_, true≢false}
+use mathlib.Core.Option.{Option, none, some}
+use native.Mathlib.Omega.{arith}
+use borrow.Author.Tests.{ltb-true, ltb-false, leb-true, eqb-true, eqb-false, not-true}
+use lib.Dec.{eqb, ltb, leb}
+use lib.ListN.{length, take, drop, getD, replicate, getD-replicate, length-take}
+use lib.Seq.{length-sets}
+use Rattle.buffer.proofs.Tests.{pick-both, both, neither}
+use Rattle.buffer.specs.Same.{sameBytes}
+use Rattle.coap.specs.Frame.{frameOf}
+use Rattle.coap.specs.declared.Datagram.{Datagram}
+use Rattle.coap.specs.declared.Datagram.the-variants.{Frame as Whole, Malformed, Foreign}
+use Rattle.coap.specs.declared.Frame.{Frame}
+use Rattle.decode.specs.Read.{atMost, redirectOf, transferOf, loadOf, hashOf}
+use Rattle.csmp.specs.declared.Image.{Image}
+use Rattle.decode.specs.declared.Transfer.{Transfer}
+use Rattle.firmware.specs.Load.{withPending, isOpen, isPending, openFault, sourceFault, pendingFault, loads, loadsAt, loadAnswered, cancels, cancelAnswered, backs, backupAnswered, booted}
+use Rattle.firmware.specs.Open.{sizedTexts, isGiven, numberOr0, isWhole, isOurs, faultOf, openedBy, replaced, opens, openIf, transferAnswered}
+use Rattle.firmware.specs.Place.{isHash, hashAt, nameAt, versionAt}
+use Rattle.firmware.specs.declared.Answered.{Answered}
+use Rattle.post.specs.Judge.{lookedAt, judged}
+use Rattle.post.specs.Value.{isReadable}
+use Rattle.post.specs.declared.Judgement.{Judgement}
+use Rattle.post.specs.declared.Judgement.the-variants.{Error as Refused, Run}
+use Rattle.protobuf.specs.Statements.{Each}
+use Rattle.protobuf.specs.declared.Bytes.{Bytes}
+use Rattle.protobuf.specs.declared.Bytes.the-variants.{At, Absent}
+use Rattle.registration.specs.Redirect.{restarted}
+use Rattle.decimal.specs.Ids.{held as listed}
+use Rattle.request.specs.Request.{requestOf}
+use Rattle.request.specs.declared.Asks.{Asks}
+use Rattle.request.specs.declared.Asks.the-variants.{Error, Post as Posting, Index, Record, Records}
+use Rattle.run.specs.Post.{postedAs, judgedAt, posted}
+use Rattle.run.specs.Run.{World, withImages, blockTaken, act, ran}
+use Rattle.run.proofs.Laws.{run-readable}
+use Rattle.schedule.specs.declared.Moment.{Moment}
+use Rattle.schedule.specs.declared.Moment.the-variants.{At as On, Absent as Never}
+use Rattle.schedule.specs.declared.Point.{Point}
+use Rattle.state.specs.Setup.{hwIdOf, urlOf, hashOf as runningOf, within, validTexts, validSettings, firstState, setupOf}
+use Rattle.state.specs.declared.Device.{Device}
+use Rattle.state.specs.declared.Groups.{Groups}
+use Rattle.state.specs.declared.Images.{Images}
+use Rattle.state.specs.declared.State.{State}
+use Rattle.state.specs.declared.setup.Settings.{Settings}
+use Rattle.state.specs.declared.setup.Setup.{Setup}
+use Rattle.tlv.specs.Record.{Tlv, records}
+use Rattle.transfer.specs.Bitmap.{bit, held}
+use Rattle.transfer.specs.Block.{Flash, Offer, offered, putBlock, putOffer, takeBlock}
+use Rattle.transfer.specs.Blocks.{blocks}
+use Rattle.transfer.proofs.Marks.{length-marked, held-other}
+use Rattle.transfer.proofs.Puts.{fits-told, put-cases}
+use Rattle.calls.specs.Boot.{bootOf}
+use Rattle.class.specs.Class.{classOf}
+use Rattle.calls.specs.Datagram.{Call, Effect, worldIn, refusal, servedAs, served, replied, classed, received, datagramOf}
+use Rattle.calls.specs.Made.{Made, set, called, rounded, reported, booted as reborn, Between, DeviceSized, OpenSized, ImagesSized, RegistrationSized, Sized, MadeSized}
+use Rattle.calls.proofs.OwnSizes.{round-sized, report-sized}
+use Rattle.calls.proofs.AckSizes.{redirect-sized, acknowledged-sized}
+use Rattle.class.specs.declared.Class.{Class}
+use Rattle.class.specs.declared.Class.the-variants.{Request, Acknowledgement, Rejected, Ignored}
+
+-- setup: texts and settings that are valid are sized
+within-told : (low n high : ℕ) → within low n high ≡ true → Between low n high
+unfolding within
+within-told low n high h =
+    let t = both (leb low n) (leb n high) h in
+    (leb-true low n (t .0), leb-true n high (t .1))
+
+module _ (hw vendor running url : List ℕ) (s : Settings) where
+  first-sized : validTexts hw vendor running url ≡ true → validSettings s ≡ true → Sized (firstState hw vendor running url s)
+  unfolding validTexts validSettings firstState hwIdOf urlOf runningOf
+  first-sized h g =
+      let a = both (within 1 (length hw) 32) (leb (length vendor) 32 && (eqb (length running) 32 && within 1 (length url) 128)) h in
+      let b = both (leb (length vendor) 32) (eqb (length running) 32 && within 1 (length url) 128) (a .1) in
+      let c = both (eqb (length running) 32) (within 1 (length url) 128) (b .1) in
+      let low = s .«interval_min» .0 in
+      let high = s .«interval_max» .0 in
+      let e = both (within 1 (s .«image_len») 1048576) (leb 1 low && (leb low high && leb high 86400)) g in
+      let f = both (leb 1 low) (leb low high && leb high 86400) (e .1) in
+      let k = both (leb low high) (leb high 86400) (f .1) in
+      let up = leb-true low high (k .0) in
+      record {
+        device =
+            record {
+              hw = within-told 1 (length hw) 32 (a .0);
+              vendor = leb-true (length vendor) 32 (b .0);
+              home = within-told 1 (length url) 128 (c .1);
+              image = within-told 1 (s .«image_len») 1048576 (e .0);
+              low = (leb-true 1 low (f .0), up);
+              high = leb-true high 86400 (k .1);
+            };
+        images =
+            record {
+              running = length-sets (replicate 32 0) 0 running;
+              opened = λ q. absurd (true≢false (sym q));
+              pending = refl;
+              backup = refl;
+            };
+        assigned = record { groups = omega arith; session = omega arith; ids = omega arith; heartbeat = omega arith };
+        registration = record { url = within-told 1 (length url) 128 (c .1); interval = (omega arith, up) };
+      }
+
+  setup-sized : setupOf hw vendor running url s .outcome ≡ 0 → Sized (setupOf hw vendor running url s .state)
+  unfolding setupOf
+  setup-sized =
+      pick-both (λ (x : Setup). x .outcome ≡ 0 → Sized (x .state)) (validTexts hw vendor running url) _ _
+      (λ h. pick-both (λ (x : Setup). x .outcome ≡ 0 → Sized (x .state)) (validSettings s) _ _ (λ g e. first-sized h g) (λ g e. absurd (omega arith)))
+      (λ h e. absurd (omega arith))
+
+-- bytes of a value as the state holds them
+hash-long : (v : List ℕ) (b : Bytes) → length (hashAt v b) ≡ 32
+unfolding hashAt
+hash-long v (At start stop) = length-sets (replicate 32 0) 0 (take (stop - start) (drop start v))
+hash-long v Absent = refl
+
+name-short : (v : List ℕ) (b : Bytes) → atMost 128 b ≡ true → nameAt v b .len ≤ 128
+unfolding nameAt atMost
+name-short v (At start stop) h = omega (arith, length-take (stop - start) (drop start v), leb-true (stop - start) 128 h)
+name-short v Absent h = omega arith
+
+version-short : (v : List ℕ) (b : Bytes) → atMost 32 b ≡ true → versionAt v b .len ≤ 32
+unfolding versionAt atMost
+version-short v (At start stop) h = omega (arith, length-take (stop - start) (drop start v), leb-true (stop - start) 32 h)
+version-short v Absent h = omega arith
+
+-- an empty bitmap holds nothing
+bit-none : (j : ℕ) → bit j 0 ≡ false
+unfolding bit
+bit-none zero = refl
+bit-none (suc j) = bit-none j
+
+held-none : (n : ℕ) → held (replicate 128 0) n ≡ false
+unfolding held
+held-none n =
+    pick-both (λ (t : Bool). t ≡ false) (ltb n 1024) (bit (7 - n % 8) (getD (replicate 128 0) (n / 8) 0)) false
+    (λ h. let l = ltb-true n 1024 h in ap (bit (7 - n % 8)) (getD-replicate 128 (n / 8) 0 0 (omega arith)) ∙ bit-none (7 - n % 8)) (λ h. refl)
+
+-- record 65: what a request without a fault has
+module _ (d : Device) (size each : ℕ) where
+  abbrev Fits : Type 0
+  Fits = Between 1 each 1024 × ((size ≤ d .«image_len») × (blocks size each ≤ 1024))
+
+  fits-by : (eqb each 0 || ltb 1024 each) ≡ false → (ltb (d .«image_len») size || ltb 1024 (blocks size each)) ≡ false → Fits
+  fits-by h l =
+      let a = neither (eqb each 0) (ltb 1024 each) h in
+      let b = neither (ltb (d .«image_len») size) (ltb 1024 (blocks size each)) l in
+      let z = eqb-false each 0 (a .0) in
+      ((omega arith, ltb-false 1024 each (a .1)), (ltb-false (d .«image_len») size (b .0), ltb-false 1024 (blocks size each) (b .1)))
+
+module _ (d : Device) (i : Images) (v : List ℕ) (t : Transfer) (size each : ℕ) where
+  abbrev Faultless : ℕ → Type 0
+  Faultless n = n ≡ 0 → Fits d size each
+
+  faultless : Faultless (faultOf d i v t size each)
+  unfolding faultOf
+  faultless =
+      pick-both Faultless (eqb each 0 || ltb 1024 each) _ _ (λ h e. absurd (omega arith))
+      (λ h. pick-both Faultless (isOurs d v t) _ _
+      (λ o. pick-both Faultless (i .pending .is) _ _ (λ p e. absurd (omega arith))
+      (λ p. pick-both Faultless (ltb (d .«image_len») size || ltb 1024 (blocks size each)) _ _ (λ l e. absurd (omega arith))
+      (λ l e. fits-by d size each h l))) (λ o e. absurd (omega arith)))
+
+  opened-sized : isWhole t ≡ true → size ≡ numberOr0 (t .size) → faultOf d i v t size each ≡ 0 → OpenSized d (openedBy v t size each)
+  unfolding isWhole sizedTexts openedBy
+  opened-sized w q e =
+      let f = faultless e in
+      let a = both (isHash (t .hash)) (isGiven (t .«block_size») && (not (eqb (numberOr0 (t .size)) 0) && sizedTexts t)) w in
+      let b = both (isGiven (t .«block_size»)) (not (eqb (numberOr0 (t .size)) 0) && sizedTexts t) (a .1) in
+      let c = both (not (eqb (numberOr0 (t .size)) 0)) (sizedTexts t) (b .1) in
+      let n = eqb-false (numberOr0 (t .size)) 0 (not-true (eqb (numberOr0 (t .size)) 0) (c .0)) in
+      let x = both (atMost 32 (t .«hw_id»)) (atMost 32 (t .«vendor_hw_id») && (atMost 128 (t .name) && atMost 32 (t .version))) (c .1) in
+      let y = both (atMost 32 (t .«vendor_hw_id»)) (atMost 128 (t .name) && atMost 32 (t .version)) (x .1) in
+      let z = both (atMost 128 (t .name)) (atMost 32 (t .version)) (y .1) in
+      record {
+        hash = hash-long v (t .hash);
+        name = name-short v (t .name) (z .0);
+        version = version-short v (t .version) (z .1);
+        size = (omega arith, f .1 .0);
+        each = f .0;
+        count = f .1 .1;
+        bitmap = refl;
+        spare = λ m k. held-none m;
+      }
+
+module _ (d : Device) (i : Images) (s : ImagesSized d i) where
+  abbrev Answers : Answered → Type 0
+  Answers a = ImagesSized d (a .images)
+
+  opens-sized : (m : Image) → OpenSized d m → Answers (opens i m)
+  unfolding opens replaced
+  opens-sized m o =
+      pick-both Answers (isOpen i (m .hash)) _ _ (λ h. s)
+      (λ h. record { running = s .running; opened = λ e. o; pending = s .pending; backup = s .backup })
+
+  transfer-sized : (v : List ℕ) → Answers (transferAnswered d i v)
+  unfolding transferAnswered openIf
+  transfer-sized v =
+      let t = transferOf v in
+      let size = numberOr0 (t .size) in
+      let each = numberOr0 (t .«block_size») in
+      pick-both Answers (isWhole t) _ _
+      (λ w. pick-both Answers (eqb (faultOf d i v t size each) 0) _ _
+      (λ e. opens-sized (openedBy v t size each) (opened-sized d i v t size each w refl (eqb-true (faultOf d i v t size each) 0 e))) (λ e. s)) (λ w. s)
+
+  -- records 68 to 70
+  pending-sized : (hash : List ℕ) (is : Bool) (time : Point) → length hash ≡ 32
+      → ImagesSized d (withPending i (record { is = is; hash = hash; time = time }))
+  pending-sized hash is time l = record { running = s .running; opened = s .opened; pending = l; backup = s .backup }
+
+  loads-sized : (hash : List ℕ) (time : Point) → length hash ≡ 32 → Answers (loads i hash time)
+  unfolding loads
+  loads-sized hash time l =
+      pick-both Answers (eqb (sourceFault i hash) 0) _ _
+      (λ h. pick-both Answers (eqb (pendingFault i hash) 0) _ _ (λ g. pending-sized hash true time l) (λ g. s)) (λ h. s)
+
+  loads-at-sized : (hash : List ℕ) (time : Moment) → length hash ≡ 32 → Answers (loadsAt i hash time)
+  unfolding loadsAt
+  loads-at-sized hash (On t) l = pick-both Answers (eqb (t .0) 0) _ _ (λ h. s) (λ h. loads-sized hash t l)
+  loads-at-sized hash Never l = s
+
+  load-sized : (v : List ℕ) → Answers (loadAnswered i v)
+  unfolding loadAnswered
+  load-sized v =
+      pick-both Answers (isHash (loadOf v .hash)) _ _
+      (λ h. loads-at-sized (hashAt v (loadOf v .hash)) (loadOf v .time) (hash-long v (loadOf v .hash))) (λ h. s)
+
+  cancel-sized : (v : List ℕ) → Answers (cancelAnswered i v)
+  unfolding cancelAnswered cancels
+  cancel-sized v =
+      let hash = hashAt v (hashOf v .hash) in
+      pick-both Answers (isHash (hashOf v .hash)) _ _
+      (λ h. pick-both Answers (isPending i hash) _ _ (λ p. pending-sized (replicate 32 0) false (record { 0 = 0 }) refl)
+      (λ p. pick-both Answers (sameBytes (i .running) hash) _ _ (λ r. s) (λ r. s))) (λ h. s)
+
+  backup-sized : (v : List ℕ) → Answers (backupAnswered i v)
+  unfolding backupAnswered backs
+  backup-sized v =
+      let hash = hashAt v (hashOf v .hash) in
+      pick-both Answers (isHash (hashOf v .hash)) _ _
+      (λ h. pick-both Answers (eqb (openFault i hash) 0) _ _
+      (λ o. pick-both Answers (i .pending .is) _ _ (λ p. s)
+      (λ p. record { running = s .running; opened = s .opened; pending = s .pending; backup = hash-long v (hashOf v .hash) })) (λ o. s)) (λ h. s)
+
+-- record 67
+module _ (d : Device) (i : Image) (bs : List ℕ) (s : OpenSized d i) where
+  put-sized : (n : ℕ) (dat : List ℕ) → OpenSized d (putBlock i bs n dat .image)
+  put-sized n dat =
+      put-cases i bs n dat (λ (f : Flash). OpenSized d (f .image)) s
+      (λ h g. record {
+        hash = s .hash;
+        name = s .name;
+        version = s .version;
+        size = s .size;
+        each = s .each;
+        count = s .count;
+        bitmap = length-marked (i .bitmap) n ∙ s .bitmap;
+        spare = λ m k. held-other (i .bitmap) m n (λ e. let t = fits-told i n (length dat) h in omega arith) ∙ s .spare m k;
+      })
+
+  offer-sized : (o : Option Offer) → OpenSized d (putOffer i bs o .image)
+  offer-sized none = s
+  offer-sized (some o) = put-sized (o .number) (o .bytes)
+
+  take-sized : (v : List ℕ) → OpenSized d (takeBlock i bs v .image)
+  unfolding takeBlock
+  take-sized v = offer-sized (offered i v)
+
+-- what records may change
+record WorldSized (d : Device) (w : World) : Type 0 where
+  images : ImagesSized d (w .images)
+  registration : RegistrationSized d (w .registration)
+
+readable-redirect : (k : ℕ) (v : List ℕ) → eqb k 6 ≡ true → isReadable k v ≡ true → redirectOf v .readable ≡ true
+unfolding isReadable
+readable-redirect k v e h = rw e at h
+
+abbrev Readable : Tlv → Type 0
+Readable t = isReadable (t .kind) (t .value) ≡ true
+
+module _ (d : Device) (sized : DeviceSized d) where
+  block-sized : (w : World) (v : List ℕ) → WorldSized d w → WorldSized d (blockTaken w v)
+  unfolding blockTaken
+  block-sized w v s =
+      let i = s .images in
+      pick-both (WorldSized d) (w .images .«open») _ _
+      (λ o. record {
+        images =
+            record {
+              running = i .running;
+              opened = λ e. take-sized d (w .images .image) (w .flash) (i .opened o) v;
+              pending = i .pending;
+              backup = i .backup;
+            };
+        registration = s .registration;
+      })
+      (λ o. s)
+
+  act-sized : (w : World) (k : ℕ) (v : List ℕ) → isReadable k v ≡ true → WorldSized d w → WorldSized d (act d w k v)
+  unfolding act
+  act-sized w k v h s =
+      pick-both (WorldSized d) (eqb k 6) _ _
+      (λ e. record { images = s .images; registration = redirect-sized d (w .registration) sized (s .registration) v (readable-redirect k v e h) })
+      (λ _. pick-both (WorldSized d) (eqb k 65) _ _ (λ _. changed (transfer-sized d (w .images) (s .images) v))
+      (λ _. pick-both (WorldSized d) (eqb k 67) _ _ (λ _. block-sized w v s)
+      (λ _. pick-both (WorldSized d) (eqb k 68) _ _ (λ _. changed (load-sized d (w .images) (s .images) v))
+      (λ _. pick-both (WorldSized d) (eqb k 69) _ _ (λ _. changed (cancel-sized d (w .images) (s .images) v))
+      (λ _. pick-both (WorldSized d) (eqb k 70) _ _ (λ _. changed (backup-sized d (w .images) (s .images) v)) (λ _. s))))))
+    where
+      changed : {i : Images} → ImagesSized d i → WorldSized d (withImages w i)
+      changed x = record { images = x; registration = s .registration }
+
+  ran-sized : (w : World) (ts : List Tlv) → Each Readable ts → WorldSized d w → WorldSized d (ran d w ts)
+  unfolding ran
+  ran-sized w [] h s = s
+  ran-sized w (t ∷ ts) h s = ran-sized (act d w (t .kind) (t .value)) ts (h .1) (act-sized w (t .kind) (t .value) (h .0) s)
+
+  posted-as-sized : (w : World) (p : List ℕ) (j : Judgement) → (j ≡ Run → Each Readable (records p)) → WorldSized d w
+      → WorldSized d (postedAs d w p j .world)
+  unfolding postedAs
+  posted-as-sized w p (Refused code) h s = s
+  posted-as-sized w p Run h s = ran-sized w (records p) (h refl) s
+
+posted-sized : (d : Device) (g : Groups) (w : World) (p : List ℕ) (time : Point) (verdict : ℕ) → DeviceSized d → WorldSized d w
+    → WorldSized d (posted d g w p time verdict .world)
+unfolding posted judgedAt
+posted-sized d g w p time verdict k s =
+    posted-as-sized d k w p (judged (lookedAt g time p) verdict (d .«signed_posts»)) (run-readable g time p verdict (d .«signed_posts»)) s
+
+module _ (s : State) (image : List ℕ) (sized : Sized s) where
+  world-sized : WorldSized (s .device) (worldIn s image)
+  world-sized = record { images = sized .images; registration = sized .registration }
+
+  served-sized : (store payload : List ℕ) (time : Point) (verdict : ℕ) (ids : List ℕ) (asks : Asks) → Sized (servedAs s image store payload time verdict ids asks .state)
+  unfolding servedAs
+  served-sized store payload time verdict ids (Error code) = sized
+  served-sized store payload time verdict ids Posting =
+      let w = posted-sized (s .device) (s .assigned .groups) (worldIn s image) payload time verdict (sized .device) world-sized in
+      record { device = sized .device; images = w .images; assigned = sized .assigned; registration = w .registration }
+  served-sized store payload time verdict ids Index = sized
+  served-sized store payload time verdict ids (Record id) = sized
+  served-sized store payload time verdict ids Records = sized
+
+  classed-sized : (store bytes : List ℕ) (f : Frame) (time : Point) (verdict : ℕ) (c : Class) → Sized (classed s image store bytes f time verdict c .state)
+  unfolding classed replied served
+  classed-sized store bytes f time verdict Request = served-sized store (drop (f .payload) bytes) time verdict (listed (requestOf bytes f .ids)) (requestOf bytes f .asks)
+  classed-sized store bytes f time verdict Acknowledgement = acknowledged-sized s sized (f .id) (drop (f .payload) bytes) time verdict
+  classed-sized store bytes f time verdict Rejected = sized
+  classed-sized store bytes f time verdict Ignored = sized
+
+  received-sized : (store bytes : List ℕ) (time : Point) (verdict : ℕ) (r : Datagram) → Sized (received s image store bytes time verdict r .state)
+  unfolding received
+  received-sized store bytes time verdict Foreign = sized
+  received-sized store bytes time verdict (Malformed kind id) = sized
+  received-sized store bytes time verdict (Whole f) = classed-sized store bytes f time verdict (classOf (f .kind) (f .code))
+
+  datagram-sized : (c : Call) → Sized (datagramOf s image c .state)
+  unfolding datagramOf
+  datagram-sized c =
+      pick-both (λ (e : Effect). Sized (e .state)) (eqb (refusal s image c) 0) _ _
+      (λ h. received-sized (c .store) (c .bytes) (c .time) (c .verdict) (frameOf (c .bytes))) (λ h. sized)
+
+boot-images-sized : (d : Device) (i : Images) → ImagesSized d i → ImagesSized d (booted i)
+unfolding booted
+boot-images-sized d i k =
+    pick-both (ImagesSized d) (i .pending .is) _ _
+    (λ h. record { running = k .pending; opened = k .opened; pending = refl; backup = k .backup })
+    (λ h. k)
+
+boot-sized : (s : State) → Sized s → Sized (bootOf s)
+unfolding bootOf restarted
+boot-sized s k =
+    record {
+      device = k .device;
+      images = boot-images-sized (s .device) (s .images) (k .images);
+      assigned = k .assigned;
+      registration = record { url = k .device .home; interval = (omega arith, k .device .low .1) };
+    }
+
+made : {s : State} → Made s → Sized s
+made (set hw vendor running url s e) = setup-sized hw vendor running url s e
+made (called {s} m image c) = datagram-sized s image (made m) c
+made (rounded {s} m out store time) = round-sized s out store time (made m)
+made (reported {s} m out store time which) = report-sized s out store time which (made m)
+made (reborn {s} m) = boot-sized s (made m)
+
+pub made-sized : MadeSized
+made-sized s m = made m

@@ -1,0 +1,54 @@
+// What a call answers, and the replies to a datagram: they go only to a CON.
+use state::State;
+ghost use mathlib.Core.Path.{_≡_};
+ghost use Rattle.buffer.specs.Put.{Appended};
+ghost use Rattle.reply.specs.Reply.{replyOf, replyTo, resetTo};
+
+// What a call answers: document 01's outcome, the length of what was written to the output, and the state after it.
+pub struct Answer {
+    pub outcome: u32,
+    pub len: usize,
+    pub state: State,
+}
+
+// Nothing is written.
+pub fn silent(outcome: u32, state: State) -> Answer
+    ensures { λ r. ⌜ r ≡ record { outcome = outcome; len = 0; state = state } ⌝ }
+{
+    Answer {
+        outcome,
+        len: 0,
+        state,
+    }
+}
+
+// An acknowledgement at the front of the output: its head, and the payload if there is one.
+fn put_acknowledgement(out: &mut [u8], code: u8, id: u16, body: &[u8]) -> usize
+    ensures { λ r. ⌜ Appended (now (out .entry)) 0 (replyOf code id (now (body .entry))) (now (out .exit)) r ⌝ }
+{
+    if body.len() == 0 {
+        return coap::put_reply(out, 0, code, id, false);
+    }
+    let at = coap::put_reply(out, 0, code, id, true);
+    buffer::put(out, at, body)
+}
+
+// A reply to a datagram of that type; a NON gets none.
+pub fn put_reply(out: &mut [u8], kind: u8, code: u8, id: u16, body: &[u8]) -> usize
+    ensures { λ r. ⌜ Appended (now (out .entry)) 0 (replyTo kind code id (now (body .entry))) (now (out .exit)) r ⌝ }
+{
+    if kind != 0 {
+        return 0;
+    }
+    put_acknowledgement(out, code, id, body)
+}
+
+// A reset for a datagram of that type that has a format error; only a CON gets one.
+pub fn put_reset(out: &mut [u8], kind: u8, id: u16) -> usize
+    ensures { λ r. ⌜ Appended (now (out .entry)) 0 (resetTo kind id) (now (out .exit)) r ⌝ }
+{
+    if kind != 0 {
+        return 0;
+    }
+    coap::put_reset(out, 0, id)
+}
