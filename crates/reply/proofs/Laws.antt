@@ -73,12 +73,12 @@ reset-short kind id = pick-both (λ (bs : List ℕ). length bs ≤ 1280) (eqb ki
 
 -- what is put at the front of an output that has room is sent
 module _ {outcome : ℕ} {s : State} {out : List ℕ} {r : Answer} where
-  pub sent-appended : {bs left : List ℕ} {n : ℕ} → r ≡ record { outcome = outcome; len = n; state = s } → Appended out 0 bs left n
-      → length bs ≤ 1280 → 1280 ≤ length out → Sent outcome bs s out r left
-  sent-appended {bs} {left} {n} e p h g =
+  pub sent-appended : {bs left : List ℕ} → r .outcome ≡ outcome → r .state ≡ s → Appended out 0 bs left (r .len) → length bs ≤ 1280
+      → 1280 ≤ length out → Sent outcome bs s out r left
+  sent-appended {bs} e f p h g =
       let a = appended-all p (omega arith) in
-      let z : n ≡ length bs = omega (arith, a .1) in
-      rw e (record { outcome = refl; len = z; state = refl; bytes = a .0; small = omega arith })
+      let z : r .len ≡ length bs = omega (arith, a .1) in
+      record { outcome = e; len = z; state = f; bytes = a .0; small = omega arith }
 
   pub sent-silent : r ≡ record { outcome = outcome; len = 0; state = s } → Sent outcome [] s out r out
   sent-silent e = rw e (record { outcome = refl; len = refl; state = refl; bytes = refl; small = omega arith })

@@ -72,7 +72,7 @@ module _ (e : Sending) {out left : List ℕ} where
 
   as-sent : {bs : List ℕ} {t : State} {n : ℕ} {r : Answer} → e ≡ record { outcome = 0; sent = bs; state = t } → r ≡ record { outcome = 0; len = n; state = t }
       → Put out 0 bs left n → length bs ≤ 1280 → 1280 ≤ length out → SentAs e out r left
-  as-sent q k p h g = rw q (sent-appended k (appended-put p) h g)
+  as-sent q k p h g = rw (q, k) (sent-appended refl refl (appended-put p) h g)
 
 -- a round gives its waits where it is sent
 abbrev pub noRound : ℕ → State → RoundAnswer

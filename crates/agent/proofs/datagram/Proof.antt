@@ -40,7 +40,7 @@ enum-known-frame : tie.Need-enum-known-frame
 enum-known-frame c = search needs
 
 receive-requires : tie.Need-receive-requires
-receive-requires c κs = room _ _ _ _ _ _ (sym (c .before .before .before .before .before .before .before .datagram-refusal .ensures) ∙ c .before .before .before .before .before .before .if1 .left)
+receive-requires c κs = search needs
 
 returns-2 : tie.Need-returns-2
 unfolding refusal
@@ -61,7 +61,7 @@ same-length-3 c = search needs
 
 returns-4 : tie.Need-returns-4
 unfolding refusal
-returns-4 c = call-framed _ _ (inputs (c .before .before .before .before .before .before .before .before .before .before .before .before .before .before .before .before .before)) (c .before .before .before .before .before .before .before .before .before .before .before .before .datagram-refusal .ensures) (c .before .before .before .before .before .before .before .before .before .before .before .if1 .left) (c .before .before .before .before .before .before .before .before .before .before .read .ensures) (c .before .before .before .before .before .before .before .before .frame .given .1) (c .before .before .before .before .receive .ensures)
+returns-4 c = call-framed _ _ (inputs (c .before .before .before .before .before .before .before .before .before .before .before .before .before .before .before .before .before)) (c .before .before .before .before .before .before .before .before .before .before .before .before .datagram-refusal .ensures) (c .before .before .before .before .before .before .before .before .before .before .before .if1 .left) (c .before .before .before .before .before .before .before .before .before .before .read .ensures) (room _ _ _ _ _ _ (sym (c .before .before .before .before .before .before .before .before .before .before .before .before .datagram-refusal .ensures) ∙ c .before .before .before .before .before .before .before .before .before .before .before .if1 .left)) (c .before .before .before .before .before .before .before .before .frame .given .1) (c .before .before .before .before .receive .ensures)
 
 pub datagram-spec : {M : Type 1} → statement M
 datagram-spec =
