@@ -6,8 +6,9 @@ use native.Mathlib.Omega.{arith}
 use borrow.Author.Tests.{lt-ltb, le-ltb}
 use lib.ListN.{length, take, drop, getD, length-take}
 use lib.Seq.{sets-eq, take-suc, take-all, take-append-seam}
-use Rattle.agent.specs.Datagram.{Effect, Left}
-use Rattle.agent.specs.declared.Answer.{Answer}
+use Rattle.agent.specs.Left.{Left}
+use Rattle.calls.specs.Datagram.{Effect}
+use Rattle.reply.specs.declared.Answer.{Answer}
 use Rattle.buffer.specs.Put.{Put, Appended}
 use Rattle.buffer.proofs.Puts.{appended-put, appended-none, appended-join}
 use Rattle.decimal.specs.Decimal.{decimal}

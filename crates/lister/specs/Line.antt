@@ -5,7 +5,7 @@ use mathlib.Core.List.{List, [], _∷_, _++_}
 use mathlib.Core.Bool.{false}
 use lib.Dec.{ltb}
 use lib.ListN.{length, replicate}
-use Rattle.agent.specs.Datagram.{Call, Effect}
+use Rattle.calls.specs.Datagram.{Call, Effect}
 use Rattle.buffer.specs.Pick.{pick}
 use Rattle.buffer.specs.Put.{Appended}
 use Rattle.decimal.specs.Decimal.{decimal}

@@ -1,15 +1,15 @@
 // The listing of a capture: a header, then a line for each entry.
 mod text;
 
+use agent::Length;
+use agent::Point;
+use agent::Settings;
+use agent::Setup;
+use agent::State;
 use capture::Capture;
 use capture::Entry;
-use schedule::Length;
-use schedule::Point;
-use state::Settings;
-use state::Setup;
-use state::State;
 ghost use mathlib.Core.Path.{_≡_};
-ghost use Rattle.agent.specs.Datagram.{datagramOf};
+ghost use Rattle.calls.specs.Datagram.{datagramOf};
 ghost use Rattle.lister.specs.Line.{listedDevice, callOf, Listed};
 
 // A line's length, and the state behind it.
@@ -24,8 +24,8 @@ pub fn device() -> Setup
 {
     let settings = Settings {
         image_len: 4096,
-        interval_min: Length(300),
-        interval_max: Length(3600),
+        interval_min: Length(agent::DEFAULT_INTERVAL_MIN),
+        interval_max: Length(agent::DEFAULT_INTERVAL_MAX),
         message_id: 0,
         signed_posts: false,
         signed_responses: false,
