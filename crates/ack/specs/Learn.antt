@@ -11,7 +11,7 @@ use Rattle.decode.specs.Read.{plain, redirectOf, sessionOf, reportOf, groupOf, 
 use Rattle.decode.specs.declared.Group.{Group}
 use Rattle.csmp.specs.declared.SessionId.{SessionId}
 use Rattle.post.specs.Value.{isExpired}
-use Rattle.protobuf.specs.Statements.{bytesGiven}
+use Rattle.protobuf.specs.Given.{bytesGiven}
 use Rattle.protobuf.specs.declared.Number.{Number}
 use Rattle.protobuf.specs.declared.Number.the-variants.{Given, Absent}
 use Rattle.registration.specs.Redirect.{followed, urlIn, redirected}

@@ -21,7 +21,8 @@ use Rattle.decimal.specs.declared.Ids.{Ids}
 use Rattle.post.specs.Judge.{badlySigned}
 use Rattle.protobuf.specs.Field.{fields, bytesOf}
 use Rattle.protobuf.specs.Find.{bytesIn}
-use Rattle.protobuf.specs.Statements.{IfAny, bytesGiven}
+use Rattle.protobuf.specs.Each.{IfAny}
+use Rattle.protobuf.specs.Given.{bytesGiven}
 use Rattle.protobuf.specs.declared.Bytes.{Bytes}
 use Rattle.protobuf.specs.declared.Bytes.the-variants.{At, Absent}
 use Rattle.protobuf.specs.declared.Field.{Field}

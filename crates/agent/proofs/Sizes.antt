@@ -26,7 +26,7 @@ use Rattle.post.specs.Judge.{lookedAt, judged}
 use Rattle.post.specs.Value.{isReadable}
 use Rattle.post.specs.declared.Judgement.{Judgement}
 use Rattle.post.specs.declared.Judgement.the-variants.{Error as Refused, Run}
-use Rattle.protobuf.specs.Statements.{Each}
+use Rattle.protobuf.specs.Each.{Each}
 use Rattle.protobuf.specs.declared.Bytes.{Bytes}
 use Rattle.protobuf.specs.declared.Bytes.the-variants.{At, Absent}
 use Rattle.registration.specs.Redirect.{restarted}

@@ -18,7 +18,7 @@ use Rattle.decimal.specs.declared.Id.the-variants.{Given, Nothing}
 use Rattle.decimal.specs.declared.Ids.{Ids}
 use Rattle.protobuf.specs.Field.{fieldsFrom, bytesOf}
 use Rattle.protobuf.specs.Find.{chosen, one, countOf, countIn}
-use Rattle.protobuf.specs.Table.{contentOf, contents, alike, asBytes, valueOf, kindShape, shapeOf, readable}
+use Rattle.tables.specs.Table.{contentOf, contents, alike, asBytes, valueOf, kindShape, shapeOf, readable}
 use Rattle.protobuf.specs.declared.Field.{Field}
 use Rattle.protobuf.specs.declared.Found.the-variants.{Field as The, Absent}
 use Rattle.decode.specs.Read.{plain, nested, withId, withEntry, withField, withFields, listedIn, fewIn}

@@ -5,8 +5,8 @@ use mathlib.Core.List.{List, [], _∷_}
 use mathlib.Core.Bool.{true}
 use Rattle.decimal.specs.Decimal.{idsAmong}
 use Rattle.decimal.specs.Ids.{held}
-use Rattle.protobuf.specs.Statements.{Each}
-use Rattle.protobuf.specs.Table.{Table, strings, contents, valueOf, readable}
+use Rattle.protobuf.specs.Each.{Each}
+use Rattle.tables.specs.Table.{Table, strings, contents, valueOf, readable}
 use Rattle.decode.specs.Read.{plain, nested, listedIn, fewIn}
 use Rattle.csmp.specs.Tables.{redirect, session, reportSubscribe, group, transferRequest, imageBlock, loadRequest, imageHash, signatureValidity, signature}
 

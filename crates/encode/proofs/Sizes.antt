@@ -9,7 +9,9 @@ use native.Mathlib.Omega.{arith}
 use lib.ListN.{length, take, length-append}
 use Rattle.decimal.specs.Decimal.{decimal}
 use Rattle.decimal.specs.declared.Ids.{Ids}
-use Rattle.protobuf.specs.Table.{Kind, uint32, bool, bytes, strings, message, Table, end, row, Value, Values, flagNumber, ifGiven, ifAny, written, writeBy}
+use Rattle.tables.specs.Table.{Kind, uint32, bool, bytes, strings, message, Table, end, row, Value, Values, flagNumber, written, writeBy}
+use Rattle.protobuf.specs.Given.{ifGiven}
+use Rattle.protobuf.specs.Write.{ifAny}
 use Rattle.schedule.specs.declared.Interval.{Interval}
 use Rattle.schedule.specs.declared.Moment.{Moment}
 use Rattle.schedule.specs.declared.Point.{Point}

@@ -7,11 +7,13 @@ use native.Mathlib.Omega.{arith}
 use lib.ListN.{length, take, length-append}
 use Rattle.decimal.proofs.Theorems.{round-trip as id-back}
 use Rattle.decimal.specs.Decimal.{decimal, idThen, idsAmong}
-use Rattle.protobuf.proofs.Theorems.{round-trip as fields-back}
+use Rattle.tables.proofs.Theorems.{round-trip as fields-back}
 use Rattle.protobuf.specs.Find.{one}
-use Rattle.protobuf.specs.Statements.{Ordered, levels, Each, Small, Writable, numberGiven}
-use Rattle.protobuf.specs.Table.{Table, Values, ifAny, written, writeBy}
-use Rattle.protobuf.specs.Write.{numberField, bytesField}
+use Rattle.tables.specs.Statements.{Ordered, levels, Small, Writable}
+use Rattle.protobuf.specs.Each.{Each}
+use Rattle.protobuf.specs.Given.{numberGiven}
+use Rattle.tables.specs.Table.{Table, Values, written, writeBy}
+use Rattle.protobuf.specs.Write.{ifAny, numberField, bytesField}
 use Rattle.tlv.proofs.Theorems.{round-trip as records-back}
 use Rattle.tlv.specs.Record.{Tlv, recordBytes, payload}
 use Rattle.tlv.specs.Statements.{Fitting, none as no-record, one as a-record}

@@ -14,9 +14,9 @@ use Rattle.buffer.proofs.Puts.{all, Chain, chain-fits, Whole, chain-whole, put-
 use Rattle.buffer.proofs.Stretches.{fits-true, room}
 use Rattle.decimal.specs.Decimal.{decimal}
 use Rattle.decimal.proofs.Laws.{digits-most}
-use Rattle.protobuf.specs.Statements.{numberGiven}
-use Rattle.protobuf.specs.Table.{each, ifAny, ifGiven, written, writeBy}
-use Rattle.protobuf.specs.Write.{numberField, bytesHead, bytesField}
+use Rattle.protobuf.specs.Given.{numberGiven, ifGiven}
+use Rattle.protobuf.specs.Write.{each, ifAny, numberField, bytesHead, bytesField}
+use Rattle.tables.specs.Table.{written, writeBy}
 use Rattle.schedule.specs.declared.Moment.{Moment}
 use Rattle.varint.specs.Varint.{delimited}
 use Rattle.varint.proofs.Laws.{varint-length, varint-1, varint-5, two-length, delimited-length}

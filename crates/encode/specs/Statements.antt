@@ -8,8 +8,9 @@ use lib.ListN.{length, take, replicate}
 use Rattle.decimal.specs.Decimal.{decimal, idsAmong}
 use Rattle.decimal.specs.Ids.{held}
 use Rattle.decimal.specs.declared.Ids.{Ids}
-use Rattle.protobuf.specs.Statements.{IfAny, Each, numberGiven}
-use Rattle.protobuf.specs.Table.{Table, Values, readable, readBy, ifGiven, writeBy}
+use Rattle.protobuf.specs.Each.{IfAny, Each}
+use Rattle.protobuf.specs.Given.{numberGiven, ifGiven}
+use Rattle.tables.specs.Table.{Table, Values, readable, readBy, writeBy}
 use Rattle.protobuf.specs.declared.Number.{Number}
 use Rattle.schedule.specs.declared.Interval.{Interval}
 use Rattle.schedule.specs.declared.Moment.{Moment}

@@ -7,9 +7,9 @@ use lib.ListN.{take}
 use Rattle.decimal.specs.Decimal.{decimal}
 use Rattle.decimal.specs.Ids.{held}
 use Rattle.decimal.specs.declared.Ids.{Ids}
-use Rattle.protobuf.specs.Statements.{numberGiven}
-use Rattle.protobuf.specs.Table.{each, ifGiven, writeBy}
-use Rattle.protobuf.specs.Write.{bytesField}
+use Rattle.protobuf.specs.Given.{numberGiven, ifGiven}
+use Rattle.protobuf.specs.Write.{each, bytesField}
+use Rattle.tables.specs.Table.{writeBy}
 use Rattle.protobuf.specs.declared.Number.{Number}
 use Rattle.protobuf.specs.declared.Number.the-variants.{Given, Absent}
 use Rattle.schedule.specs.declared.Point.{Point}

@@ -10,7 +10,7 @@ use lib.ListN.{length, drop, length-take, length-drop}
 use Rattle.buffer.specs.Pick.{pick}
 use Rattle.protobuf.specs.Field.{fields, bytesOf}
 use Rattle.protobuf.specs.Find.{chosen, lastOf, lastIn, one, countOf, placeOf, bytesIn}
-use Rattle.protobuf.specs.Statements.{Each}
+use Rattle.protobuf.specs.Each.{Each}
 use Rattle.protobuf.specs.declared.Bytes.the-variants.{At}
 use Rattle.protobuf.specs.declared.Field.{Field}
 use Rattle.protobuf.specs.declared.Found.{Found}

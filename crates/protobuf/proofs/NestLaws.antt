@@ -17,7 +17,7 @@ use Rattle.buffer.proofs.Stretches.{fits-true, fits-false, stretch-to, stretch-
 use Rattle.buffer.proofs.Walks.{Advances, walk-end, walk-more, walk-unreadable}
 use Rattle.protobuf.specs.Field.{fields, bytesOf}
 use Rattle.protobuf.specs.Readable.{Row, rowTo, rowStep, firstRow, nestedIn, heldReadable, fieldReadable, allReadable, messageReadable}
-use Rattle.protobuf.specs.Statements.{Each}
+use Rattle.protobuf.specs.Each.{Each}
 use Rattle.protobuf.specs.declared.Field.{Field}
 use Rattle.protobuf.specs.declared.nesting.Nested.{Nested}
 use Rattle.protobuf.specs.declared.nesting.Nested.the-variants.{At, Nothing}

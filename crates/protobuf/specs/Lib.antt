@@ -1,6 +1,6 @@
+pub mod Each
 pub mod Field
 pub mod Find
+pub mod Given
 pub mod Readable
 pub mod Write
-pub mod Table
-pub mod Statements

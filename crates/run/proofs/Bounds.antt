@@ -20,7 +20,7 @@ use Rattle.firmware.specs.Open.{isWhole, isOurs, faultOf, replaced, opens, open
 use Rattle.firmware.specs.Place.{isHash, bytesAt, hashAt, echoed}
 use Rattle.firmware.specs.declared.Answered.{Answered}
 use Rattle.protobuf.specs.Find.{numberOf, numberIn, lastIn, bytesIn}
-use Rattle.protobuf.specs.Table.{ifAny}
+use Rattle.protobuf.specs.Write.{ifAny}
 use Rattle.protobuf.specs.declared.Bytes.{Bytes}
 use Rattle.protobuf.specs.declared.Bytes.the-variants.{At as Lies, Absent as NoBytes}
 use Rattle.protobuf.specs.declared.Found.{Found}

@@ -11,7 +11,7 @@ use Rattle.buffer.specs.Pick.{pick}
 use Rattle.decode.specs.Read.{blockOf}
 use Rattle.csmp.specs.declared.Image.{Image}
 use Rattle.protobuf.specs.Find.{isText}
-use Rattle.protobuf.specs.Statements.{numberGiven, bytesGiven}
+use Rattle.protobuf.specs.Given.{numberGiven, bytesGiven}
 use Rattle.transfer.specs.Blocks.{blocks, blockLength}
 use Rattle.transfer.specs.Bitmap.{held, marked, withBitmap}
 

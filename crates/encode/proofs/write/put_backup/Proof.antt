@@ -8,8 +8,9 @@ use lib.Dec.{lit≤}
 use lib.ListN.{length, replicate}
 use lib.Seq.{length-take-le}
 use Rattle.buffer.proofs.Puts.{done, next, Whole}
-use Rattle.protobuf.specs.Statements.{numberGiven}
-use Rattle.protobuf.specs.Table.{ifAny, written, writeBy}
+use Rattle.protobuf.specs.Given.{numberGiven}
+use Rattle.protobuf.specs.Write.{ifAny}
+use Rattle.tables.specs.Table.{written, writeBy}
 use Rattle.encode.specs.Write.{momentNumber, imageValue, backupRecord}
 use Rattle.encode.proofs.WriteLaws.{number-most, bytes-most, number-if-most, nil, upto, whole}
 use borrow.Author.Needs.{needs}

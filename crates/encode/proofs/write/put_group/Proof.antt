@@ -7,7 +7,8 @@ use lib.Dec.{lit≤}
 use lib.ListN.{replicate}
 use lib.Seq.{length-take-le}
 use Rattle.buffer.proofs.Puts.{done, next, Whole}
-use Rattle.protobuf.specs.Table.{ifAny, written, writeBy}
+use Rattle.protobuf.specs.Write.{ifAny}
+use Rattle.tables.specs.Table.{written, writeBy}
 use Rattle.csmp.specs.Tables
 use Rattle.encode.specs.Write.{groupRecord}
 use Rattle.encode.proofs.WriteLaws.{number-most, nil, upto, whole}

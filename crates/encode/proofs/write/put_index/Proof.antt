@@ -7,7 +7,7 @@ use lib.ListN.{length, take, replicate}
 use lib.Seq.{length-take-le}
 use Rattle.buffer.proofs.Puts.{done, next, Whole}
 use Rattle.decimal.specs.Decimal.{decimal}
-use Rattle.protobuf.specs.Table.{written, writeBy}
+use Rattle.tables.specs.Table.{written, writeBy}
 use Rattle.csmp.specs.Tables
 use Rattle.encode.specs.Write.{indexRecord}
 use Rattle.encode.proofs.WriteLaws.{texts-each, list-most, nil, upto, whole, room-texts}

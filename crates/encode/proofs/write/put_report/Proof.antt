@@ -8,8 +8,8 @@ use lib.Seq.{length-take-le}
 use Rattle.buffer.proofs.Puts.{done, next, Whole}
 use Rattle.decimal.specs.Decimal.{decimal}
 use Rattle.decimal.specs.Ids.{held}
-use Rattle.protobuf.specs.Statements.{numberGiven}
-use Rattle.protobuf.specs.Table.{written, writeBy}
+use Rattle.protobuf.specs.Given.{numberGiven}
+use Rattle.tables.specs.Table.{written, writeBy}
 use Rattle.csmp.specs.Tables
 use Rattle.encode.specs.Write.{intervalNumber, reportRecord}
 use Rattle.encode.proofs.WriteLaws.{texts-each, number-if-most, texts-most, list-most, nil, upto, whole, room-texts}

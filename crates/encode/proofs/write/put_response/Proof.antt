@@ -8,9 +8,9 @@ use lib.Dec.{lit≤}
 use lib.ListN.{length, replicate}
 use lib.Seq.{length-take-le}
 use Rattle.buffer.proofs.Puts.{done, next, Whole}
-use Rattle.protobuf.specs.Statements.{numberGiven}
-use Rattle.protobuf.specs.Table.{ifAny, ifGiven, written, writeBy}
-use Rattle.protobuf.specs.Write.{bytesField}
+use Rattle.protobuf.specs.Given.{numberGiven, ifGiven}
+use Rattle.protobuf.specs.Write.{ifAny, bytesField}
+use Rattle.tables.specs.Table.{written, writeBy}
 use Rattle.csmp.specs.Tables
 use Rattle.encode.specs.Write.{momentNumber, responseRecord}
 use Rattle.encode.proofs.WriteLaws.{number-most, number-if-most, bytes-if-most, nil, upto, whole}

@@ -9,7 +9,8 @@ use lib.Dec.{lit≤}
 use lib.ListN.{length, replicate}
 use lib.Seq.{length-take-le}
 use Rattle.buffer.proofs.Puts.{done, next, Whole}
-use Rattle.protobuf.specs.Table.{ifAny, written, writeBy}
+use Rattle.protobuf.specs.Write.{ifAny}
+use Rattle.tables.specs.Table.{written, writeBy}
 use Rattle.schedule.specs.declared.Moment.the-variants.{Absent as Never}
 use Rattle.encode.specs.Write.{momentNumber, imageValue, runningRecord}
 use Rattle.encode.proofs.WriteLaws.{number-most, bytes-most, nil, upto, whole}

@@ -9,16 +9,17 @@ use lib.Dec.{eqb}
 use lib.ListN.{length, take, drop, length-take}
 use lib.Seq.{take-take, take-nil, drop-drop}
 use Rattle.buffer.specs.Pick.{pick}
 use Rattle.protobuf.specs.Field.{fields, bytesOf}
 use Rattle.protobuf.specs.Find.{chosen, lastOf, lastIn, movedTo, laterOf, laterIn, lastOfParts}
-use Rattle.protobuf.specs.Statements.{Each, foundBytes}
-use Rattle.protobuf.specs.Table.{Content, contentOf, contents, alike, lastOne, asBytes, merged}
+use Rattle.protobuf.specs.Each.{Each}
+use Rattle.protobuf.specs.Given.{foundBytes}
+use Rattle.tables.specs.Table.{Content, contentOf, contents, alike, lastOne, asBytes, merged}
 use Rattle.protobuf.specs.declared.Field.{Field}
 use Rattle.protobuf.specs.declared.Found.{Found}
 use Rattle.protobuf.specs.declared.Found.the-variants.{Field as The, Absent}
 use Rattle.protobuf.proofs.EachLaws.{each-so}
 use Rattle.protobuf.proofs.FieldLaws.{Follows, fields-follow}
-use Rattle.protobuf.proofs.TableValues.{alike-append}
+use Rattle.tables.proofs.TableValues.{alike-append}
 
 -- what is made of the field found is what the last of those alike holds
 pub last-found : {A : Type 0} (s : List ℕ) (n w : ℕ) (h : Found → Option A) (g : Content → A) (l : List Field)

@@ -6,10 +6,10 @@ use mathlib.Core.Option.{Option, none, some}
 use lib.ListN.{length}
 use lib.Dec.{eqb}
 use Rattle.buffer.specs.Pick.{pick}
 use Rattle.protobuf.specs.Field.{fields, bytesOf}
 use Rattle.protobuf.specs.Readable.{messageReadable}
-use Rattle.protobuf.specs.Write.{numberField, bytesField}
+use Rattle.protobuf.specs.Write.{numberField, bytesField, ifAny, each}
 use Rattle.protobuf.specs.declared.Field.{Field}
 
 -- What a field may hold, and the known fields of a message: each a number and a kind.
 mutual
@@ -120,18 +120,6 @@ readBy T s = valuesOf T (contents s)
 abbrev pub flagNumber : Bool → ℕ
 flagNumber true = 1
 flagNumber false = 0
-
--- what is there or not
-abbrev pub ifGiven : {A : Type 0} → Bool → A → Option A
-ifGiven b a = pick b (some a) none
-
-unfoldable pub ifAny : {A : Type 0} → (A → List ℕ) → Option A → List ℕ
-ifAny write none = []
-ifAny write (some a) = write a
-
-unfoldable pub each : {A : Type 0} → (A → List ℕ) → List A → List ℕ
-each write [] = []
-each write (a ∷ l) = write a ++ each write l
 
 unfoldable mutual
   pub written : (k : Kind) → ℕ → Value k → List ℕ

@@ -10,12 +10,12 @@ use Rattle.buffer.specs.Walk.{Walked}
 use Rattle.varint.specs.Varint.{varint, two, delimited}
 use Rattle.varint.proofs.Laws.{two-length, delimited-length}
 use Rattle.varint.proofs.Stretched.{varint-back, delimited-split, delimited-back}
 use Rattle.protobuf.specs.Field.{numbered, held, contentAt, fieldAt, fieldsFrom}
-use Rattle.protobuf.specs.Table.{Content, contentOf}
+use Rattle.tables.specs.Table.{Content, contentOf}
 use Rattle.protobuf.specs.Write.{numberField, bytesField}
 use Rattle.protobuf.specs.declared.Field.{Field}
 use Rattle.protobuf.specs.declared.Step.the-variants.{Field as Whole}
 use Rattle.protobuf.proofs.FieldLaws.{field-tagged, field-within, fields-more}
 
 -- a field as it is written
 abbrev pub numberContent : ℕ → ℕ → Content

@@ -8,15 +8,16 @@ use native.Mathlib.Omega.{arith}
 use borrow.Author.Tests.{eq-eqb}
 use lib.Dec.{eqb}
 use Rattle.buffer.specs.Pick.{pick}
 use Rattle.protobuf.specs.Field.{fields}
 use Rattle.protobuf.specs.Readable.{nestedIn, heldReadable, fieldReadable, allReadable, messageReadable}
-use Rattle.protobuf.specs.Statements.{Each, Ordered, kindLevels, levels}
-use Rattle.protobuf.specs.Table.{Kind, uint32, bool, bytes, strings, message, messages, Table, end, row, Value, Values, Content, contentOf, contents, shapeOf, writeBy}
+use Rattle.protobuf.specs.Each.{Each}
+use Rattle.tables.specs.Statements.{Ordered, kindLevels, levels}
+use Rattle.tables.specs.Table.{Kind, uint32, bool, bytes, strings, message, messages, Table, end, row, Value, Values, Content, contentOf, contents, shapeOf, writeBy}
 use Rattle.protobuf.specs.declared.Field.{Field}
-use Rattle.protobuf.proofs.TableContents.{kindFields, fieldsIn, Above, table-numbers, FitRow, Fit, first-fits, rest-fits, held-fits, each-fits, written-whole}
+use Rattle.tables.proofs.TableContents.{kindFields, fieldsIn, Above, table-numbers, FitRow, Fit, first-fits, rest-fits, held-fits, each-fits, written-whole}
 use Rattle.protobuf.proofs.EachLaws.{each-so, each-both, each-append, each-over, each-map}
-use Rattle.protobuf.proofs.TableFields.{bytesContent}
-use Rattle.protobuf.proofs.TableShape.{heldBy, heldIn, shape-held, held-other, held-later}
+use Rattle.tables.proofs.TableFields.{bytesContent}
+use Rattle.tables.proofs.TableShape.{heldBy, heldIn, shape-held, held-other, held-later}
 
 -- a field's content can be read by a shape, and by a table
 abbrev ByShape : (List ℕ → List ℕ → Bool) → List ℕ → Content → Type 0

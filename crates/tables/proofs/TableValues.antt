@@ -8,11 +8,11 @@ use native.Mathlib.Omega.{arith}
 use borrow.Author.Tests.{eq-eqb, ne-eqb}
 use lib.Dec.{eqb}
 use Rattle.buffer.specs.Pick.{pick}
-use Rattle.protobuf.specs.Statements.{Each}
-use Rattle.protobuf.specs.Table.{Kind, uint32, bool, bytes, strings, message, messages, Table, end, row, Value, Values, Content, contents, alike, lastOne, merged, whereAny, asBytes, valueOf, valuesOf, writeBy}
-use Rattle.protobuf.proofs.TableContents.{kindFields, fieldsIn, Of, Above, kind-number, table-numbers, FitRow, Fit, first-fits, rest-fits, held-fits, each-fits, written-whole}
+use Rattle.protobuf.specs.Each.{Each}
+use Rattle.tables.specs.Table.{Kind, uint32, bool, bytes, strings, message, messages, Table, end, row, Value, Values, Content, contents, alike, lastOne, merged, whereAny, asBytes, valueOf, valuesOf, writeBy}
+use Rattle.tables.proofs.TableContents.{kindFields, fieldsIn, Of, Above, kind-number, table-numbers, FitRow, Fit, first-fits, rest-fits, held-fits, each-fits, written-whole}
 use Rattle.protobuf.proofs.EachLaws.{each-all, each-so, each-append}
-use Rattle.protobuf.proofs.TableFields.{bytesContent}
+use Rattle.tables.proofs.TableFields.{bytesContent}
 
 -- contents of other numbers
 abbrev UpTo : ℕ → Content → Type 0

@@ -1,21 +1,13 @@
 -- What is proved of messages, beyond the functions' contracts.
-use Prim.Native.Nat.{ℕ, suc, _-_, _^_, max, _≤_, _<_}
+use Prim.Native.Nat.{ℕ, suc, _^_, max, _≤_, _<_}
 use mathlib.Core.Path.{_≡_}
-use mathlib.Core.List.{List, [], _∷_}
-use mathlib.Core.Bool.{Bool, true}
-use mathlib.Core.Option.{Option, none, some}
-use lib.ListN.{length, take, drop}
-use Rattle.protobuf.specs.Field.{bytesOf}
+use mathlib.Core.List.{List}
+use mathlib.Core.Bool.{true}
+use lib.ListN.{length}
+use Rattle.protobuf.specs.Each.{IfAny, Each}
 use Rattle.protobuf.specs.Find.{numberIn, flagIn, bytesIn, lastInParts}
-use Rattle.protobuf.specs.Table.{Kind, uint32, bool, bytes, strings, message, messages, Table, end, row, Value, Values, alike, contents, merged, valueOf, readable, readBy, writeBy}
-use Rattle.protobuf.specs.declared.Found.{Found}
-use Rattle.protobuf.specs.declared.Found.the-variants.{Field as The, Absent}
-use Rattle.protobuf.specs.declared.Number.{Number}
-use Rattle.protobuf.specs.declared.Number.the-variants.{Given, Absent as NoNumber}
-use Rattle.protobuf.specs.declared.Flag.{Flag}
-use Rattle.protobuf.specs.declared.Flag.the-variants.{Given as Told, Absent as NoFlag}
-use Rattle.protobuf.specs.declared.Bytes.{Bytes}
-use Rattle.protobuf.specs.declared.Bytes.the-variants.{At, Absent as NoBytes}
+use Rattle.protobuf.specs.Given.{numberGiven, flagGiven, bytesGiven, foundBytes}
+use Rattle.tables.specs.Table.{Kind, uint32, bool, bytes, strings, message, messages, Table, end, row, Value, Values, alike, contents, merged, valueOf, readable, readBy, writeBy}
 
 -- field numbers ascend, are not 0, and leave room for the wire type below 2^32
 abbrev mutual
@@ -45,14 +37,6 @@ abbrev mutual
   levels end = 1
   levels (row n k T) = max (suc (kindLevels k)) (levels T)
 
-abbrev pub IfAny : {A : Type 0} → (A → Type 0) → Option A → Type 0
-IfAny P none = Unit {0}
-IfAny P (some a) = P a
-
-abbrev pub Each : {A : Type 0} → (A → Type 0) → List A → Type 0
-Each P [] = Unit {0}
-Each P (a ∷ l) = P a × Each P l
-
 -- numbers are below 2^32
 abbrev mutual
   pub SmallValue : (k : Kind) → Value k → Type 0
@@ -79,23 +63,6 @@ pub record RoundTrip : Type 0 where
   pub whole : (T : Table) (v : Values T) → Writable T v → readable T (writeBy T v) ≡ true
   pub back : (T : Table) (v : Values T) → Writable T v → readBy T (writeBy T v) ≡ v
   pub unchanged : (T : Table) (v : Values T) (s : List ℕ) → Writable T v → s ≡ writeBy T v → writeBy T (readBy T s) ≡ s
-
--- what the finders answer, as values of a table
-abbrev pub numberGiven : Number → Option ℕ
-numberGiven (Given v) = some v
-numberGiven NoNumber = none
-
-abbrev pub flagGiven : Flag → Option Bool
-flagGiven (Told b) = some b
-flagGiven NoFlag = none
-
-abbrev pub bytesGiven : List ℕ → Bytes → Option (List ℕ)
-bytesGiven s (At start stop) = some (take (stop - start) (drop start s))
-bytesGiven s NoBytes = none
-
-abbrev pub foundBytes : List ℕ → Found → Option (List ℕ)
-foundBytes s (The f) = some (bytesOf s f)
-foundBytes s Absent = none
 
 -- the functions that find a field agree with reading by a table
 pub record Finders : Type 0 where

@@ -1,17 +1,18 @@
 -- What `specs/Statements.antt` states of messages.
 use mathlib.Core.Path.{_≡_, refl, ap}
 use mathlib.Core.List.{[]}
 use Rattle.protobuf.specs.Field.{fields}
 use Rattle.protobuf.specs.Find.{lastIn, lastInParts, numberOf, numberIn, flagOf, flagIn, placeOf, bytesIn}
-use Rattle.protobuf.specs.Statements.{Writable, RoundTrip, Finders, numberGiven, flagGiven, bytesGiven}
-use Rattle.protobuf.specs.Table.{Table, Values, contents, asNumber, asFlag, asBytes, valueOf, readable, readBy, writeBy}
+use Rattle.tables.specs.Statements.{Writable, RoundTrip, Finders}
+use Rattle.protobuf.specs.Given.{numberGiven, flagGiven, bytesGiven}
+use Rattle.tables.specs.Table.{Table, Values, contents, asNumber, asFlag, asBytes, valueOf, readable, readBy, writeBy}
 use Rattle.protobuf.specs.declared.Found.{Found}
 use Rattle.protobuf.specs.declared.Found.the-variants.{Absent}
-use Rattle.protobuf.proofs.TableContents.{Fit}
+use Rattle.tables.proofs.TableContents.{Fit}
 use Rattle.protobuf.proofs.EachLaws.{each-all}
-use Rattle.protobuf.proofs.TableFind.{last-found, parts-found}
-use Rattle.protobuf.proofs.TableReadable.{message-readable, table-readable}
-use Rattle.protobuf.proofs.TableValues.{nested-back, values-back}
+use Rattle.tables.proofs.TableFind.{last-found, parts-found}
+use Rattle.tables.proofs.TableReadable.{message-readable, table-readable}
+use Rattle.tables.proofs.TableValues.{nested-back, values-back}
 
 fit : {T : Table} {v : Values T} → Writable T v → Fit 0 T v
 fit w = record { ordered = w .ordered; small = w .small; short = w .short }

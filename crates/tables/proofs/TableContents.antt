@@ -8,13 +8,14 @@ use native.Mathlib.Omega.{arith}
 use lib.ListN.{length, length-append}
 use Rattle.buffer.specs.Walk.{Walked}
 use Rattle.varint.proofs.Laws.{delimited-length}
 use Rattle.protobuf.specs.Field.{fields}
-use Rattle.protobuf.specs.Statements.{Each, SmallValue, Small, OrderedKind, Ordered}
-use Rattle.protobuf.specs.Table.{Kind, uint32, bool, bytes, strings, message, messages, Table, end, row, Value, Values, Content, contents, flagNumber, ifAny, each, written, writeBy}
-use Rattle.protobuf.specs.Write.{bytesField}
+use Rattle.protobuf.specs.Each.{Each}
+use Rattle.tables.specs.Statements.{SmallValue, Small, OrderedKind, Ordered}
+use Rattle.tables.specs.Table.{Kind, uint32, bool, bytes, strings, message, messages, Table, end, row, Value, Values, Content, contents, flagNumber, written, writeBy}
+use Rattle.protobuf.specs.Write.{ifAny, each, bytesField}
 use Rattle.protobuf.proofs.EachLaws.{each-so, each-append, each-map}
 use Rattle.protobuf.proofs.FieldLaws.{fields-end}
-use Rattle.protobuf.proofs.TableFields.{numberContent, bytesContent, readFrom, before, Spells, spells-number, spells-bytes}
+use Rattle.tables.proofs.TableFields.{numberContent, bytesContent, readFrom, before, Spells, spells-number, spells-bytes}
 
 spells-none : Spells [] []
 spells-none short front rest = rw (append-nil front)
