@@ -1,4 +1,2 @@
 pub mod EachLaws
 pub mod FieldLaws
-pub mod FindLaws
-pub mod NestLaws

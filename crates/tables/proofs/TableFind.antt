@@ -10,7 +10,7 @@ use lib.ListN.{length, take, drop, length-take}
 use lib.Seq.{take-take, take-nil, drop-drop}
 use Rattle.buffer.specs.Pick.{pick}
 use Rattle.protobuf.specs.Field.{fields, bytesOf}
-use Rattle.protobuf.specs.Find.{chosen, lastOf, lastIn, movedTo, laterOf, laterIn, lastOfParts}
+use Rattle.find.specs.Find.{chosen, lastOf, lastIn, movedTo, laterOf, laterIn, lastOfParts}
 use Rattle.protobuf.specs.Each.{Each}
 use Rattle.protobuf.specs.Given.{foundBytes}
 use Rattle.tables.specs.Table.{Content, contentOf, contents, alike, lastOne, asBytes, merged}

@@ -9,7 +9,7 @@ use borrow.Author.Tests.{eq-eqb}
 use lib.Dec.{eqb}
 use Rattle.buffer.specs.Pick.{pick}
 use Rattle.protobuf.specs.Field.{fields}
-use Rattle.protobuf.specs.Readable.{nestedIn, heldReadable, fieldReadable, allReadable, messageReadable}
+use Rattle.nesting.specs.Readable.{nestedIn, heldReadable, fieldReadable, allReadable, messageReadable}
 use Rattle.protobuf.specs.Each.{Each}
 use Rattle.tables.specs.Statements.{Ordered, kindLevels, levels}
 use Rattle.tables.specs.Table.{Kind, uint32, bool, bytes, strings, message, messages, Table, end, row, Value, Values, Content, contentOf, contents, shapeOf, writeBy}

@@ -10,12 +10,12 @@ use lib.ListN.{length, length-append}
 use lib.Seq.{getD-append-seam, getD-append-add}
 use Rattle.buffer.specs.Pick.{pick}
 use Rattle.buffer.specs.Walk.{walk}
-use Rattle.protobuf.specs.Readable.{rowStep, firstRow, nestedIn, heldReadable}
+use Rattle.nesting.specs.Readable.{rowStep, firstRow, nestedIn, heldReadable}
 use Rattle.tables.specs.Statements.{Ordered}
 use Rattle.tables.specs.Table.{Kind, uint32, bool, bytes, strings, message, messages, Table, end, row, kindShape, shapeOf}
-use Rattle.protobuf.specs.declared.nesting.Nested.{Nested}
-use Rattle.protobuf.specs.declared.nesting.Nested.the-variants.{At}
-use Rattle.protobuf.proofs.NestLaws.{rows-end, rows-more}
+use Rattle.nesting.specs.declared.Nested.{Nested}
+use Rattle.nesting.specs.declared.Nested.the-variants.{At}
+use Rattle.nesting.proofs.NestLaws.{rows-end, rows-more}
 use Rattle.tables.proofs.TableFields.{between}
 
 -- the row of a field m that holds a message of shape x

@@ -2,7 +2,7 @@
 use mathlib.Core.Path.{_≡_, refl, ap}
 use mathlib.Core.List.{[]}
 use Rattle.protobuf.specs.Field.{fields}
-use Rattle.protobuf.specs.Find.{lastIn, lastInParts, numberOf, numberIn, flagOf, flagIn, placeOf, bytesIn}
+use Rattle.find.specs.Find.{lastIn, lastInParts, numberOf, numberIn, flagOf, flagIn, placeOf, bytesIn}
 use Rattle.tables.specs.Statements.{Writable, RoundTrip, Finders}
 use Rattle.protobuf.specs.Given.{numberGiven, flagGiven, bytesGiven}
 use Rattle.tables.specs.Table.{Table, Values, contents, asNumber, asFlag, asBytes, valueOf, readable, readBy, writeBy}

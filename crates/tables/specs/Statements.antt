@@ -5,7 +5,7 @@ use mathlib.Core.List.{List}
 use mathlib.Core.Bool.{true}
 use lib.ListN.{length}
 use Rattle.protobuf.specs.Each.{IfAny, Each}
-use Rattle.protobuf.specs.Find.{numberIn, flagIn, bytesIn, lastInParts}
+use Rattle.find.specs.Find.{numberIn, flagIn, bytesIn, lastInParts}
 use Rattle.protobuf.specs.Given.{numberGiven, flagGiven, bytesGiven, foundBytes}
 use Rattle.tables.specs.Table.{Kind, uint32, bool, bytes, strings, message, messages, Table, end, row, Value, Values, alike, contents, merged, valueOf, readable, readBy, writeBy}
 

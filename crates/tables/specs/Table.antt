@@ -7,7 +7,7 @@ use lib.ListN.{length}
 use lib.Dec.{eqb}
 use Rattle.buffer.specs.Pick.{pick}
 use Rattle.protobuf.specs.Field.{fields, bytesOf}
-use Rattle.protobuf.specs.Readable.{messageReadable}
+use Rattle.nesting.specs.Readable.{messageReadable}
 use Rattle.protobuf.specs.Write.{numberField, bytesField, ifAny, each}
 use Rattle.protobuf.specs.declared.Field.{Field}
 
