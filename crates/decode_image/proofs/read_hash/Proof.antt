@@ -1,8 +1,8 @@
--- `decode::read::read_hash` meets its contract: the definition at what is found.
-use Rattle.decode.specs.Read.{hashOf}
+-- `decode_image::read_hash` meets its contract: the definition at what is found.
+use Rattle.decode_image.specs.Read.{hashOf}
 use borrow.Author.Needs.{needs}
-use Rattle.decode.proofs.read.read_hash.Statement.{statement}
-use Rattle.decode.proofs.read.read_hash.Tie as tie
+use Rattle.decode_image.proofs.read_hash.Statement.{statement}
+use Rattle.decode_image.proofs.read_hash.Tie as tie
 
 plain-readable-requires : tie.Need-plain-readable-requires
 plain-readable-requires c κs = search needs

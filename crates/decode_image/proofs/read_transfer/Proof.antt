@@ -1,8 +1,8 @@
--- `decode::read::read_transfer` meets its contract: the definition at what is found.
-use Rattle.decode.specs.Read.{transferOf}
+-- `decode_image::read_transfer` meets its contract: the definition at what is found.
+use Rattle.decode_image.specs.Read.{transferOf}
 use borrow.Author.Needs.{needs}
-use Rattle.decode.proofs.read.read_transfer.Statement.{statement}
-use Rattle.decode.proofs.read.read_transfer.Tie as tie
+use Rattle.decode_image.proofs.read_transfer.Statement.{statement}
+use Rattle.decode_image.proofs.read_transfer.Tie as tie
 
 transfer-readable-requires : tie.Need-transfer-readable-requires
 transfer-readable-requires c κs = search needs

@@ -1,8 +1,8 @@
--- `decode::read::read_load` meets its contract: the definition at what is found.
-use Rattle.decode.specs.Read.{loadOf}
+-- `decode_image::read_block` meets its contract: the definition at what is found.
+use Rattle.decode_image.specs.Read.{blockOf}
 use borrow.Author.Needs.{needs}
-use Rattle.decode.proofs.read.read_load.Statement.{statement}
-use Rattle.decode.proofs.read.read_load.Tie as tie
+use Rattle.decode_image.proofs.read_block.Statement.{statement}
+use Rattle.decode_image.proofs.read_block.Tie as tie
 
 plain-readable-requires : tie.Need-plain-readable-requires
 plain-readable-requires c κs = search needs
@@ -13,19 +13,19 @@ last-bytes-requires c κs = search needs
 last-number-requires : tie.Need-last-number-requires
 last-number-requires c κs = search needs
 
-moment-requires : tie.Need-moment-requires
-moment-requires c κs = search needs
+last-bytes-requires-2 : tie.Need-last-bytes-requires-2
+last-bytes-requires-2 c κs = search needs
 
 returns : tie.Need-returns
-unfolding loadOf
+unfolding blockOf
 returns c = cc
 
-pub read-load-spec : {M : Type 1} → statement M
-read-load-spec =
+pub read-block-spec : {M : Type 1} → statement M
+read-block-spec =
     tie.close
     (tie.spec
     plain-readable-requires
     last-bytes-requires
     last-number-requires
-    moment-requires
+    last-bytes-requires-2
     returns)

@@ -1,8 +1,8 @@
--- `decode::read::transfer_readable` meets its contract: the shape of TransferRequest.
-use Rattle.decode.specs.Read.{nested}
+-- `decode_image::transfer_readable` meets its contract: the shape of TransferRequest.
+use Rattle.decode_image.specs.Read.{nested}
 use borrow.Author.Needs.{needs}
-use Rattle.decode.proofs.read.transfer_readable.Statement.{statement}
-use Rattle.decode.proofs.read.transfer_readable.Tie as tie
+use Rattle.decode_image.proofs.transfer_readable.Statement.{statement}
+use Rattle.decode_image.proofs.transfer_readable.Tie as tie
 
 slice-aggregate-readable : tie.Need-slice-aggregate-readable
 slice-aggregate-readable c = search needs
