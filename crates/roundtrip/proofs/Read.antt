@@ -1,4 +1,4 @@
--- What `specs/Statements.antt` states of the readers.
+-- What `specs/Read.antt` states.
 use Prim.Native.Nat.{ℕ, _+_, _≤_, _<_}
 use mathlib.Core.Path.{_≡_, refl, sym, _∙_}
 use mathlib.Core.List.{List, [], _∷_, _++_, map, append-nil}
@@ -17,12 +17,14 @@ use Rattle.decimal.specs.declared.Id.{Id}
 use Rattle.decimal.specs.declared.Id.the-variants.{Given, Nothing}
 use Rattle.decimal.specs.declared.Ids.{Ids}
 use Rattle.protobuf.specs.Field.{fieldsFrom, bytesOf}
-use Rattle.protobuf.specs.Find.{chosen, one, countOf, countIn}
+use Rattle.find.specs.Find.{chosen, one, countOf, countIn}
 use Rattle.tables.specs.Table.{contentOf, contents, alike, asBytes, valueOf, kindShape, shapeOf, readable}
 use Rattle.protobuf.specs.declared.Field.{Field}
 use Rattle.protobuf.specs.declared.Found.the-variants.{Field as The, Absent}
-use Rattle.decode.specs.Read.{plain, nested, withId, withEntry, withField, withFields, listedIn, fewIn}
-use Rattle.decode.specs.Statements.{Shapes, Listed}
+use Rattle.nesting.specs.Readable.{plain}
+use Rattle.decode_image.specs.Read.{nested}
+use Rattle.decode.specs.Read.{withId, withEntry, withField, withFields, listedIn, fewIn}
+use Rattle.roundtrip.specs.Read.{Shapes, Listed}
 
 pub shapes : Shapes
 unfolding plain nested readable kindShape shapeOf

@@ -1,4 +1,4 @@
--- What `specs/Statements.antt` states of the writers.
+-- What `specs/Written.antt` states.
 use Prim.Native.Nat.{ℕ, _^_, _≤_, _<_}
 use mathlib.Core.Path.{_≡_, refl, sym, ap, _∙_}
 use mathlib.Core.List.{List, [], _∷_, map, append-nil}
@@ -8,7 +8,6 @@ use lib.ListN.{length, take, length-append}
 use Rattle.decimal.proofs.Theorems.{round-trip as id-back}
 use Rattle.decimal.specs.Decimal.{decimal, idThen, idsAmong}
 use Rattle.tables.proofs.Theorems.{round-trip as fields-back}
-use Rattle.protobuf.specs.Find.{one}
 use Rattle.tables.specs.Statements.{Ordered, levels, Small, Writable}
 use Rattle.protobuf.specs.Each.{Each}
 use Rattle.protobuf.specs.Given.{numberGiven}
@@ -18,9 +17,12 @@ use Rattle.tlv.proofs.Theorems.{round-trip as records-back}
 use Rattle.tlv.specs.Record.{Tlv, recordBytes, payload}
 use Rattle.tlv.specs.Statements.{Fitting, none as no-record, one as a-record}
 use Rattle.varint.specs.Varint.{continued, spelling, varint, two, delimited}
-use Rattle.encode.specs.Statements.{Samples, Back, Answered, WrittenBack}
-use Rattle.encode.specs.Write.{momentNumber, intervalNumber, indexRecord, sessionRecord, reportRecord, timeRecord, groupRecord, responseRecord, runningRecord, openRecord, backupRecord}
-use Rattle.encode.proofs.WriteLaws.{number-most, bytes-most, number-if-most, bytes-if-most, take-most, list-most}
+use Rattle.roundtrip.specs.Written.{Samples, Back, Answered, WrittenBack}
+use Rattle.csmp.specs.Values.{momentNumber, intervalNumber}
+use Rattle.encode.specs.Write.{indexRecord, sessionRecord, reportRecord, timeRecord, groupRecord}
+use Rattle.encode_image.specs.Write.{responseRecord, runningRecord, openRecord, backupRecord}
+use Rattle.protobuf.proofs.SizeLaws.{number-most, bytes-most, number-if-most, bytes-if-most, take-most}
+use Rattle.encode.proofs.WriteLaws.{list-most}
 
 pub samples : Samples
 unfolding continued spelling varint two delimited numberField bytesField ifAny written writeBy momentNumber sessionRecord responseRecord

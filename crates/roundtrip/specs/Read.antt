@@ -7,7 +7,9 @@ use Rattle.decimal.specs.Decimal.{idsAmong}
 use Rattle.decimal.specs.Ids.{held}
 use Rattle.protobuf.specs.Each.{Each}
 use Rattle.tables.specs.Table.{Table, strings, contents, valueOf, readable}
-use Rattle.decode.specs.Read.{plain, nested, listedIn, fewIn}
+use Rattle.nesting.specs.Readable.{plain}
+use Rattle.decode_image.specs.Read.{nested}
+use Rattle.decode.specs.Read.{listedIn, fewIn}
 use Rattle.csmp.specs.Tables.{redirect, session, reportSubscribe, group, transferRequest, imageBlock, loadRequest, imageHash, signatureValidity, signature}
 
 -- the messages that are read and hold no message

@@ -18,7 +18,9 @@ use Rattle.schedule.specs.declared.Moment.the-variants.{Absent as Never}
 use Rattle.schedule.specs.declared.Point.{Point}
 use Rattle.tlv.specs.Record.{recordBytes, records, readable as wholly}
 use Rattle.csmp.specs.Tables.{tlvIndex, session, reportSubscribe, currentTime, group, response, loadResponse, imageInfo}
-use Rattle.encode.specs.Write.{momentNumber, intervalNumber, indexRecord, sessionRecord, reportRecord, timeRecord, groupRecord, responseRecord, runningRecord, openRecord, backupRecord}
+use Rattle.csmp.specs.Values.{momentNumber, intervalNumber}
+use Rattle.encode.specs.Write.{indexRecord, sessionRecord, reportRecord, timeRecord, groupRecord}
+use Rattle.encode_image.specs.Write.{responseRecord, runningRecord, openRecord, backupRecord}
 use Rattle.csmp.specs.declared.Hash.{Hash}
 use Rattle.csmp.specs.declared.Image.{Image}
 use Rattle.csmp.specs.declared.Index.{Index}

@@ -4,4 +4,5 @@ pub mod TableShape
 pub mod TableValues
 pub mod TableReadable
 pub mod TableFind
+pub mod TableSizes
 pub mod Theorems

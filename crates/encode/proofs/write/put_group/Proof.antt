@@ -11,7 +11,7 @@ use Rattle.protobuf.specs.Write.{ifAny}
 use Rattle.tables.specs.Table.{written, writeBy}
 use Rattle.csmp.specs.Tables
 use Rattle.encode.specs.Write.{groupRecord}
-use Rattle.encode.proofs.WriteLaws.{number-most, nil, upto, whole}
+use Rattle.protobuf.proofs.SizeLaws.{number-most, nil, upto, whole}
 use borrow.Author.Needs.{needs}
 use Rattle.encode.proofs.write.put_group.Statement.{statement}
 use Rattle.encode.proofs.write.put_group.Tie as tie

@@ -11,7 +11,7 @@ use Rattle.protobuf.specs.Write.{ifAny}
 use Rattle.tables.specs.Table.{written, writeBy}
 use Rattle.csmp.specs.Tables
 use Rattle.encode.specs.Write.{sessionRecord}
-use Rattle.encode.proofs.WriteLaws.{bytes-most, take-most, nil, upto, whole}
+use Rattle.protobuf.proofs.SizeLaws.{bytes-most, take-most, nil, upto, whole}
 use borrow.Author.Needs.{needs}
 use Rattle.encode.proofs.write.put_session.Statement.{statement}
 use Rattle.encode.proofs.write.put_session.Tie as tie

@@ -1,4 +1,4 @@
--- `encode::write::put_open` meets its contract: the fields make the value, which fits its buffer, and the record holds it.
+-- `encode_image::put_open` meets its contract: the fields make the value, which fits its buffer, and the record holds it.
 use Prim.Native.Nat.{ℕ}
 use mathlib.Core.Path.{_≡_, sym}
 use mathlib.Core.List.{List}
@@ -10,11 +10,12 @@ use Rattle.buffer.proofs.Puts.{done, next, Whole}
 use Rattle.protobuf.specs.Given.{numberGiven}
 use Rattle.protobuf.specs.Write.{ifAny}
 use Rattle.tables.specs.Table.{written, writeBy}
-use Rattle.encode.specs.Write.{momentNumber, openValue, openRecord}
-use Rattle.encode.proofs.WriteLaws.{number-most, bytes-most, number-if-most, bytes-if-most, take-most, nil, upto, whole}
+use Rattle.csmp.specs.Values.{momentNumber}
+use Rattle.encode_image.specs.Write.{openValue, openRecord}
+use Rattle.protobuf.proofs.SizeLaws.{number-most, bytes-most, number-if-most, bytes-if-most, take-most, nil, upto, whole}
 use borrow.Author.Needs.{needs}
-use Rattle.encode.proofs.write.put_open.Statement.{statement}
-use Rattle.encode.proofs.write.put_open.Tie as tie
+use Rattle.encode_image.proofs.put_open.Statement.{statement}
+use Rattle.encode_image.proofs.put_open.Tie as tie
 
 -- the lengths of the arrays that were passed
 hash-sized : (s : tie.Start) → length (s .args .image .hash) ≡ 32

@@ -1,4 +1,4 @@
--- `encode::write::put_running` meets its contract: the fields make the value, which fits its buffer, and the record holds it.
+-- `encode_image::put_running` meets its contract: the fields make the value, which fits its buffer, and the record holds it.
 use Prim.Native.Nat.{ℕ}
 use mathlib.Core.Path.{_≡_, sym}
 use mathlib.Core.List.{List}
@@ -12,11 +12,12 @@ use Rattle.buffer.proofs.Puts.{done, next, Whole}
 use Rattle.protobuf.specs.Write.{ifAny}
 use Rattle.tables.specs.Table.{written, writeBy}
 use Rattle.schedule.specs.declared.Moment.the-variants.{Absent as Never}
-use Rattle.encode.specs.Write.{momentNumber, imageValue, runningRecord}
-use Rattle.encode.proofs.WriteLaws.{number-most, bytes-most, nil, upto, whole}
+use Rattle.csmp.specs.Values.{momentNumber}
+use Rattle.encode_image.specs.Write.{imageValue, runningRecord}
+use Rattle.protobuf.proofs.SizeLaws.{number-most, bytes-most, nil, upto, whole}
 use borrow.Author.Needs.{needs}
-use Rattle.encode.proofs.write.put_running.Statement.{statement}
-use Rattle.encode.proofs.write.put_running.Tie as tie
+use Rattle.encode_image.proofs.put_running.Statement.{statement}
+use Rattle.encode_image.proofs.put_running.Tie as tie
 
 -- the length of the array that was passed
 sized : (s : tie.Start) → length (s .args .t3) ≡ 32
