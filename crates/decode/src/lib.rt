@@ -2,17 +2,14 @@
 // is there and what it is; bytes stay in the value, and positions say where.
 mod read;
 
-use decimal::Ids;
 use protobuf::Bytes;
 use protobuf::Flag;
 use protobuf::Number;
 pub use read::read_group;
 pub use read::read_redirect;
-pub use read::read_report;
 pub use read::read_session;
 pub use read::read_signature;
 pub use read::read_validity;
-use schedule::Interval;
 use schedule::Moment;
 
 // NMSRedirectRequest, record 6.
@@ -26,15 +23,6 @@ pub struct Redirect {
 pub struct Session {
     pub readable: bool,
     pub id: Bytes,
-}
-
-// ReportSubscribe, record 13: the primary report and the heartbeat.
-pub struct Report {
-    pub readable: bool,
-    pub interval: Interval,
-    pub ids: Ids,
-    pub heartbeat: Interval,
-    pub heartbeat_ids: Ids,
 }
 
 // GroupAssign and GroupMatch, records 55 and 57.

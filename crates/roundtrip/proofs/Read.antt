@@ -23,7 +23,7 @@ use Rattle.protobuf.specs.declared.Field.{Field}
 use Rattle.protobuf.specs.declared.Found.the-variants.{Field as The, Absent}
 use Rattle.nesting.specs.Readable.{plain}
 use Rattle.decode_image.specs.Read.{nested}
-use Rattle.decode.specs.Read.{withId, withEntry, withField, withFields, listedIn, fewIn}
+use Rattle.decode_report.specs.Report.{withId, withEntry, withField, withFields, listedIn, fewIn}
 use Rattle.roundtrip.specs.Read.{Shapes, Listed}
 
 pub shapes : Shapes

@@ -9,7 +9,7 @@ use Rattle.protobuf.specs.Each.{Each}
 use Rattle.tables.specs.Table.{Table, strings, contents, valueOf, readable}
 use Rattle.nesting.specs.Readable.{plain}
 use Rattle.decode_image.specs.Read.{nested}
-use Rattle.decode.specs.Read.{listedIn, fewIn}
+use Rattle.decode_report.specs.Report.{listedIn, fewIn}
 use Rattle.csmp.specs.Tables.{redirect, session, reportSubscribe, group, transferRequest, imageBlock, loadRequest, imageHash, signatureValidity, signature}
 
 -- the messages that are read and hold no message

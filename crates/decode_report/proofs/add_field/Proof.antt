@@ -1,9 +1,9 @@
--- `decode::read::add_field` meets its contract: the number and the wire type say whether it is an entry.
+-- `decode_report::add_field` meets its contract: the number and the wire type say whether it is an entry.
 use mathlib.Core.Path.{sym, _∙_}
-use Rattle.decode.proofs.ReadLaws.{field-other-number, field-other-wire, field-entry}
+use Rattle.decode_report.proofs.ListLaws.{field-other-number, field-other-wire, field-entry}
 use borrow.Author.Needs.{needs}
-use Rattle.decode.proofs.read.add_field.Statement.{statement}
-use Rattle.decode.proofs.read.add_field.Tie as tie
+use Rattle.decode_report.proofs.add_field.Statement.{statement}
+use Rattle.decode_report.proofs.add_field.Tie as tie
 
 returns : tie.Need-returns
 returns c = sym (field-other-number _ _ _ _ (c .if1 .taken))

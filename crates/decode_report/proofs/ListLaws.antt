@@ -1,4 +1,4 @@
--- Laws of the readers: what each step of the code says of the definitions.
+-- Laws of lists of ids: which fields are entries.
 use Prim.Native.Nat.{ℕ}
 use mathlib.Core.Path.{_≡_}
 use mathlib.Core.List.{List}
@@ -6,7 +6,7 @@ use borrow.Author.Tests.{eq-eqb, ne-eqb}
 use Rattle.decimal.specs.declared.Ids.{Ids}
 use Rattle.protobuf.specs.Field.{bytesOf}
 use Rattle.protobuf.specs.declared.Field.{Field}
-use Rattle.decode.specs.Read.{withEntry, withField}
+use Rattle.decode_report.specs.Report.{withEntry, withField}
 
 -- a field is an entry by its number and its wire type
 module _ (v : List ℕ) (n : ℕ) (ids : Ids) (f : Field) where

@@ -1,4 +1,4 @@
--- `decode::read::read_ids` meets its contract: the ids are those of the fields left, behind those found before.
+-- `decode_report::read_ids` meets its contract: the ids are those of the fields left, behind those found before.
 use Prim.Native.Nat.{ℕ, _-_}
 use mathlib.Core.Path.{_≡_, sym, ap, _∙_}
 use mathlib.Core.List.{List}
@@ -10,9 +10,9 @@ use Rattle.decimal.specs.declared.Ids.{Ids}
 use Rattle.protobuf.specs.Field.{fieldsFrom}
 use Rattle.protobuf.specs.declared.Field.{Field}
 use Rattle.protobuf.proofs.FieldLaws.{field-within, fields-end, fields-more, fields-unreadable}
-use Rattle.decode.specs.Read.{withFields, listedIn}
-use Rattle.decode.proofs.read.read_ids.Statement.{statement}
-use Rattle.decode.proofs.read.read_ids.Tie as tie
+use Rattle.decode_report.specs.Report.{withFields, listedIn}
+use Rattle.decode_report.proofs.read_ids.Statement.{statement}
+use Rattle.decode_report.proofs.read_ids.Tie as tie
 
 -- the ids of the fields left, behind those found before
 abbrev left : List ℕ → ℕ → Ids → Walked Field → Ids

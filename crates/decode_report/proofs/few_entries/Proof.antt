@@ -1,11 +1,11 @@
--- `decode::read::few_entries` meets its contract: the definition at what `count` answers.
+-- `decode_report::few_entries` meets its contract: the definition at what `count` answers.
 use mathlib.Core.Path.{ap}
 use Prim.Native.Nat.{ℕ}
 use lib.Dec.{leb}
-use Rattle.decode.specs.Read.{fewIn}
+use Rattle.decode_report.specs.Report.{fewIn}
 use borrow.Author.Needs.{needs}
-use Rattle.decode.proofs.read.few_entries.Statement.{statement}
-use Rattle.decode.proofs.read.few_entries.Tie as tie
+use Rattle.decode_report.proofs.few_entries.Statement.{statement}
+use Rattle.decode_report.proofs.few_entries.Tie as tie
 
 count-requires : tie.Need-count-requires
 count-requires c κs = search needs

@@ -1,9 +1,9 @@
--- `decode::read::add_entry` meets its contract: the definition at what `decimal::read` answers.
+-- `decode_report::add_entry` meets its contract: the definition at what `decimal::read` answers.
 use mathlib.Core.Path.{sym, ap, _∙_}
-use Rattle.decode.specs.Read.{withId, withEntry}
+use Rattle.decode_report.specs.Report.{withId, withEntry}
 use borrow.Author.Needs.{needs}
-use Rattle.decode.proofs.read.add_entry.Statement.{statement}
-use Rattle.decode.proofs.read.add_entry.Tie as tie
+use Rattle.decode_report.proofs.add_entry.Statement.{statement}
+use Rattle.decode_report.proofs.add_entry.Tie as tie
 
 read-requires : tie.Need-read-requires
 read-requires c κs = search needs

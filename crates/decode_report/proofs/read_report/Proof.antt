@@ -1,8 +1,8 @@
--- `decode::read::read_report` meets its contract: the definition at what is found.
-use Rattle.decode.specs.Read.{reportOf}
+-- `decode_report::read_report` meets its contract: the definition at what is found.
+use Rattle.decode_report.specs.Report.{reportOf}
 use borrow.Author.Needs.{needs}
-use Rattle.decode.proofs.read.read_report.Statement.{statement}
-use Rattle.decode.proofs.read.read_report.Tie as tie
+use Rattle.decode_report.proofs.read_report.Statement.{statement}
+use Rattle.decode_report.proofs.read_report.Tie as tie
 
 few-entries-requires : tie.Need-few-entries-requires
 few-entries-requires c κs = search needs
