@@ -7,7 +7,9 @@ use lib.Dec.{eqb, leb}
 use lib.ListN.{length, replicate, set}
 use lib.Seq.{sets}
 use Rattle.buffer.specs.Pick.{pick}
-use Rattle.decode.specs.Read.{plain, redirectOf, sessionOf, reportOf, groupOf, validityOf}
+use Rattle.nesting.specs.Readable.{plain}
+use Rattle.decode.specs.Read.{redirectOf, sessionOf, groupOf, validityOf}
+use Rattle.decode_report.specs.Report.{reportOf}
 use Rattle.decode.specs.declared.Group.{Group}
 use Rattle.csmp.specs.declared.SessionId.{SessionId}
 use Rattle.post.specs.Value.{isExpired}
