@@ -7,11 +7,13 @@ use lib.Dec.{eqb, leb}
 use lib.ListN.{length, replicate, set}
 use lib.Seq.{sets}
 use Rattle.buffer.specs.Pick.{pick}
-use Rattle.decode.specs.Read.{plain, redirectOf, sessionOf, reportOf, groupOf, validityOf}
+use Rattle.nesting.specs.Readable.{plain}
+use Rattle.decode.specs.Read.{redirectOf, sessionOf, groupOf, validityOf}
+use Rattle.decode_report.specs.Report.{reportOf}
 use Rattle.decode.specs.declared.Group.{Group}
 use Rattle.csmp.specs.declared.SessionId.{SessionId}
 use Rattle.post.specs.Value.{isExpired}
-use Rattle.protobuf.specs.Statements.{bytesGiven}
+use Rattle.protobuf.specs.Given.{bytesGiven}
 use Rattle.protobuf.specs.declared.Number.{Number}
 use Rattle.protobuf.specs.declared.Number.the-variants.{Given, Absent}
 use Rattle.registration.specs.Redirect.{followed, urlIn, redirected}

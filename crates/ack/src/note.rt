@@ -102,7 +102,7 @@ fn note_session(learnt: Learnt, v: &[u8]) -> Learnt
 fn with_report(assigned: Assigned, v: &[u8]) -> Assigned
     ensures { λ r. ⌜ r ≡ withReport assigned (now (v .entry)) ⌝ }
 {
-    let m = decode::read_report(v);
+    let m = decode_report::read_report(v);
     let groups = assigned.groups;
     let session = assigned.session;
     let interval = m.interval;
@@ -126,7 +126,7 @@ fn note_report(learnt: Learnt, v: &[u8]) -> Learnt
 {
     let old = learnt.assigned;
     let assigned = with_report(old, v);
-    let mut next = mark(learnt, decode::read_report(v).readable);
+    let mut next = mark(learnt, decode_report::read_report(v).readable);
     next.assigned = assigned;
     next
 }

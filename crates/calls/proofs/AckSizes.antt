@@ -12,7 +12,10 @@ use Rattle.ack.specs.Learn.{nothingLearnt, marked, redirectNoted, sessionIdOf, 
 use Rattle.ack.specs.Take.{isAwaited, isTakable, regrouped, acceptedBy, takenBy, acknowledged}
 use Rattle.ack.specs.declared.note.Learnt.{Learnt}
 use Rattle.buffer.proofs.Tests.{pick-both, both}
-use Rattle.decode.specs.Read.{atMost, plain, redirectOf, sessionOf, withId, withEntry, withField, withFields, listedIn, reportOf, groupOf, validityOf}
+use Rattle.csmp.specs.Values.{atMost}
+use Rattle.nesting.specs.Readable.{plain}
+use Rattle.decode.specs.Read.{redirectOf, sessionOf, groupOf, validityOf}
+use Rattle.decode_report.specs.Report.{withId, withEntry, withField, withFields, listedIn, reportOf}
 use Rattle.decimal.specs.Decimal.{idOf}
 use Rattle.decimal.specs.Ids.{noIds, pushed as listed}
 use Rattle.decimal.specs.declared.Id.{Id}
@@ -20,8 +23,9 @@ use Rattle.decimal.specs.declared.Id.the-variants.{Given as Spells, Nothing}
 use Rattle.decimal.specs.declared.Ids.{Ids}
 use Rattle.post.specs.Judge.{badlySigned}
 use Rattle.protobuf.specs.Field.{fields, bytesOf}
-use Rattle.protobuf.specs.Find.{bytesIn}
-use Rattle.protobuf.specs.Statements.{IfAny, bytesGiven}
+use Rattle.find.specs.Find.{bytesIn}
+use Rattle.protobuf.specs.Each.{IfAny}
+use Rattle.protobuf.specs.Given.{bytesGiven}
 use Rattle.protobuf.specs.declared.Bytes.{Bytes}
 use Rattle.protobuf.specs.declared.Bytes.the-variants.{At, Absent}
 use Rattle.protobuf.specs.declared.Field.{Field}

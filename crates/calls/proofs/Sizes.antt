@@ -15,9 +15,11 @@ use Rattle.coap.specs.Frame.{frameOf}
 use Rattle.coap.specs.declared.Datagram.{Datagram}
 use Rattle.coap.specs.declared.Datagram.the-variants.{Frame as Whole, Malformed, Foreign}
 use Rattle.coap.specs.declared.Frame.{Frame}
-use Rattle.decode.specs.Read.{atMost, redirectOf, transferOf, loadOf, hashOf}
+use Rattle.csmp.specs.Values.{atMost}
+use Rattle.decode.specs.Read.{redirectOf}
+use Rattle.decode_image.specs.Read.{transferOf, loadOf, hashOf}
 use Rattle.csmp.specs.declared.Image.{Image}
-use Rattle.decode.specs.declared.Transfer.{Transfer}
+use Rattle.decode_image.specs.declared.Transfer.{Transfer}
 use Rattle.firmware.specs.Load.{withPending, isOpen, isPending, openFault, sourceFault, pendingFault, loads, loadsAt, loadAnswered, cancels, cancelAnswered, backs, backupAnswered, booted}
 use Rattle.firmware.specs.Open.{sizedTexts, isGiven, numberOr0, isWhole, isOurs, faultOf, openedBy, replaced, opens, openIf, transferAnswered}
 use Rattle.firmware.specs.Place.{isHash, hashAt, nameAt, versionAt}
@@ -26,7 +28,7 @@ use Rattle.post.specs.Judge.{lookedAt, judged}
 use Rattle.post.specs.Value.{isReadable}
 use Rattle.post.specs.declared.Judgement.{Judgement}
 use Rattle.post.specs.declared.Judgement.the-variants.{Error as Refused, Run}
-use Rattle.protobuf.specs.Statements.{Each}
+use Rattle.protobuf.specs.Each.{Each}
 use Rattle.protobuf.specs.declared.Bytes.{Bytes}
 use Rattle.protobuf.specs.declared.Bytes.the-variants.{At, Absent}
 use Rattle.registration.specs.Redirect.{restarted}

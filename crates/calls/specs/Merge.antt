@@ -14,7 +14,7 @@ use Rattle.coap.specs.declared.Frame.{Frame}
 use Rattle.csmp.specs.declared.Image.{Image}
 use Rattle.post.specs.declared.Judgement.{Judgement}
 use Rattle.post.specs.declared.Judgement.the-variants.{Error as Erring, Run}
-use Rattle.protobuf.specs.Statements.{Each}
+use Rattle.protobuf.specs.Each.{Each}
 use Rattle.registration.specs.Redirect.{followed, urlIn}
 use Rattle.request.specs.Request.{requestOf}
 use Rattle.request.specs.declared.Asks.{Asks}

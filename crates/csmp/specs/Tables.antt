@@ -1,5 +1,5 @@
 -- The messages of document 000, by their known fields.
-use Rattle.protobuf.specs.Table.{Table, end, row, uint32, bool, bytes, strings, message}
+use Rattle.tables.specs.Table.{Table, end, row, uint32, bool, bytes, strings, message}
 
 -- 1 TlvIndex: tlvid
 abbrev pub tlvIndex : Table

@@ -1,4 +1,11 @@
-// The messages of the CSMP draft: their tables (specs/Tables.antt), and the values of theirs that the agent keeps and shows.
+// The messages of the CSMP draft: their tables (specs/Tables.antt), the values of theirs that the agent keeps and shows, and what values share.
+mod values;
+
+pub use values::at_most;
+pub use values::interval;
+pub use values::interval_number;
+pub use values::moment;
+pub use values::moment_number;
 
 // A session id.
 pub struct SessionId {

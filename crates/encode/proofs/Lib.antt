@@ -1,3 +1,2 @@
 pub mod WriteLaws
-pub mod Theorems
 pub mod Sizes

@@ -1,37 +1,21 @@
--- The records that the agent writes: values by the tables, document 01, "Records and fields", "Transfer" and "Requests".
+-- The records that the agent writes: values by the tables, document 01, "Records and fields" and "Requests".
 use Prim.Native.Nat.{ℕ}
 use mathlib.Core.List.{List, map}
-use mathlib.Core.Bool.{Bool, true}
-use mathlib.Core.Option.{Option, none, some}
+use mathlib.Core.Option.{none, some}
 use lib.ListN.{take}
 use Rattle.decimal.specs.Decimal.{decimal}
 use Rattle.decimal.specs.Ids.{held}
 use Rattle.decimal.specs.declared.Ids.{Ids}
-use Rattle.protobuf.specs.Statements.{numberGiven}
-use Rattle.protobuf.specs.Table.{each, ifGiven, writeBy}
-use Rattle.protobuf.specs.Write.{bytesField}
-use Rattle.protobuf.specs.declared.Number.{Number}
-use Rattle.protobuf.specs.declared.Number.the-variants.{Given, Absent}
+use Rattle.protobuf.specs.Given.{numberGiven}
+use Rattle.protobuf.specs.Write.{bytesField, each}
 use Rattle.schedule.specs.declared.Point.{Point}
-use Rattle.schedule.specs.declared.Moment.{Moment}
-use Rattle.schedule.specs.declared.Moment.the-variants.{At, Absent as Never}
 use Rattle.schedule.specs.declared.Interval.{Interval}
-use Rattle.schedule.specs.declared.Interval.the-variants.{Every, Absent as NoInterval}
+use Rattle.tables.specs.Table.{writeBy}
 use Rattle.tlv.specs.Record.{recordBytes}
 use Rattle.csmp.specs.Tables
-use Rattle.csmp.specs.declared.Hash.{Hash}
-use Rattle.csmp.specs.declared.Image.{Image}
+use Rattle.csmp.specs.Values.{intervalNumber}
 use Rattle.csmp.specs.declared.Index.{Index}
 use Rattle.csmp.specs.declared.SessionId.{SessionId}
-
--- a point and a length as numbers
-unfoldable pub momentNumber : Moment → Number
-momentNumber (At p) = Given (p .0)
-momentNumber Never = Absent
-
-unfoldable pub intervalNumber : Interval → Number
-intervalNumber (Every l) = Given (l .0)
-intervalNumber NoInterval = Absent
 
 -- ids as decimal texts
 unfoldable pub texts : ℕ → List ℕ → List ℕ
@@ -59,34 +43,3 @@ timeRecord p = recordBytes 18 (writeBy Tables.currentTime (some (p .0), (none, (
 -- 58
 unfoldable pub groupRecord : ℕ → ℕ → List ℕ
 groupRecord kind id = recordBytes 58 (writeBy Tables.group (some kind, (some id, tt)))
-
--- 71 to 74: a hash of 32 bytes is echoed; only 72 has a load time
-unfoldable pub responseRecord : ℕ → Hash → ℕ → Moment → List ℕ
-responseRecord kind h answer time =
-    recordBytes kind
-    (writeBy Tables.loadResponse (ifGiven (h .given) (h .bytes), (some answer, (numberGiven (momentNumber time), tt))))
-
--- the value of a 75: isDefault, hwInfo and bitmapOffset are not written
-abbrev pub imageValue : ℕ → List ℕ → Option (List ℕ) → Option (List ℕ) → Option ℕ → Option ℕ → Option (List ℕ) → Option Bool → Moment → List ℕ
-imageValue index hash name version size block bitmap running time =
-    writeBy Tables.imageInfo
-    (some index, (some hash, (name, (version, (size, (block, (bitmap, (none, (running, (numberGiven (momentNumber time), (none, (none, tt))))))))))))
-
--- 75: running (index 0, hash, isRunning true)
-unfoldable pub runningRecord : List ℕ → List ℕ
-runningRecord hash = recordBytes 75 (imageValue 0 hash none none none none none (some true) Never)
-
--- 75: open (1, hash, name and version if given, sizes, bitmap), with loadTime if its hash is pending
-abbrev pub openValue : Image → ℕ → Moment → List ℕ
-openValue i n time =
-    imageValue 1 (i .hash)
-    (ifGiven (i .name .given) (take (i .name .len) (i .name .bytes)))
-    (ifGiven (i .version .given) (take (i .version .len) (i .version .bytes)))
-    (some (i .size)) (some (i .«block_size»)) (some (take n (i .bitmap))) none time
-
-unfoldable pub openRecord : Image → ℕ → Moment → List ℕ
-openRecord i n time = recordBytes 75 (openValue i n time)
-
--- 75: backup (2, hash), with loadTime if its hash is pending
-unfoldable pub backupRecord : List ℕ → Moment → List ℕ
-backupRecord hash time = recordBytes 75 (imageValue 2 hash none none none none none none time)

@@ -6,12 +6,12 @@ use mathlib.Core.Bool.{true, false}
 use native.Mathlib.Omega.{arith}
 use borrow.Author.Tests.{eq-eqb, ne-eqb}
 use lib.ListN.{take}
-use Rattle.decode.specs.Read.{loadOf, hashOf, transferOf}
+use Rattle.decode_image.specs.Read.{loadOf, hashOf, transferOf}
 use Rattle.csmp.specs.declared.Image.{Image}
-use Rattle.decode.specs.declared.ImageHash.{ImageHash}
-use Rattle.decode.specs.declared.Load.{Load}
-use Rattle.decode.specs.declared.Transfer.{Transfer}
-use Rattle.protobuf.specs.Find.{isText}
+use Rattle.decode_image.specs.declared.ImageHash.{ImageHash}
+use Rattle.decode_image.specs.declared.Load.{Load}
+use Rattle.decode_image.specs.declared.Transfer.{Transfer}
+use Rattle.find.specs.Find.{isText}
 use Rattle.protobuf.specs.declared.Bytes.{Bytes}
 use Rattle.protobuf.specs.declared.Bytes.the-variants.{At}
 use Rattle.protobuf.specs.declared.Number.the-variants.{Given, Absent as NoNumber}

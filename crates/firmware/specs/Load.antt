@@ -5,7 +5,7 @@ use mathlib.Core.Bool.{Bool, true, _&&_}
 use lib.Dec.{eqb}
 use Rattle.buffer.specs.Pick.{pick}
 use Rattle.buffer.specs.Same.{sameBytes}
-use Rattle.decode.specs.Read.{loadOf, hashOf}
+use Rattle.decode_image.specs.Read.{loadOf, hashOf}
 use Rattle.schedule.specs.declared.Point.{Point}
 use Rattle.schedule.specs.declared.Moment.{Moment}
 use Rattle.schedule.specs.declared.Moment.the-variants.{At, Absent}

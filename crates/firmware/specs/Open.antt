@@ -5,10 +5,11 @@ use mathlib.Core.Bool.{Bool, true, false, not, _&&_, _||_}
 use lib.ListN.{take, replicate}
 use lib.Dec.{eqb, ltb}
 use Rattle.buffer.specs.Pick.{pick}
-use Rattle.decode.specs.Read.{atMost, transferOf}
+use Rattle.csmp.specs.Values.{atMost}
+use Rattle.decode_image.specs.Read.{transferOf}
 use Rattle.csmp.specs.declared.Image.{Image}
-use Rattle.decode.specs.declared.Transfer.{Transfer}
-use Rattle.protobuf.specs.Find.{isText}
+use Rattle.decode_image.specs.declared.Transfer.{Transfer}
+use Rattle.find.specs.Find.{isText}
 use Rattle.protobuf.specs.declared.Number.{Number}
 use Rattle.protobuf.specs.declared.Number.the-variants.{Given, Absent}
 use Rattle.state.specs.declared.Device.{Device}

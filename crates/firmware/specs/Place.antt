@@ -8,7 +8,7 @@ use lib.Seq.{sets}
 use Rattle.csmp.specs.declared.Hash.{Hash}
 use Rattle.csmp.specs.declared.Name.{Name}
 use Rattle.csmp.specs.declared.Version.{Version}
-use Rattle.protobuf.specs.Find.{bytesIn}
+use Rattle.find.specs.Find.{bytesIn}
 use Rattle.protobuf.specs.declared.Bytes.{Bytes}
 use Rattle.protobuf.specs.declared.Bytes.the-variants.{At, Absent}
 

@@ -99,7 +99,7 @@ fn load(images: Images, hash: [u8; 32], time: Point) -> Answered
 pub fn answer_load(images: Images, v: &[u8]) -> Answered
     ensures { λ r. ⌜ r ≡ loadAnswered images (now (v .entry)) ⌝ }
 {
-    let l = decode::read_load(v);
+    let l = decode_image::read_load(v);
     let given = l.hash;
     if !place::is_hash(given) {
         return keep(images, crate::INVALID_REQ);
@@ -135,7 +135,7 @@ fn cancel(images: Images, hash: [u8; 32]) -> Answered
 pub fn answer_cancel(images: Images, v: &[u8]) -> Answered
     ensures { λ r. ⌜ r ≡ cancelAnswered images (now (v .entry)) ⌝ }
 {
-    let h = decode::read_hash(v);
+    let h = decode_image::read_hash(v);
     let given = h.hash;
     if !place::is_hash(given) {
         return keep(images, crate::INVALID_REQ);
@@ -167,7 +167,7 @@ fn back_up(images: Images, hash: [u8; 32]) -> Answered
 pub fn answer_backup(images: Images, v: &[u8]) -> Answered
     ensures { λ r. ⌜ r ≡ backupAnswered images (now (v .entry)) ⌝ }
 {
-    let h = decode::read_hash(v);
+    let h = decode_image::read_hash(v);
     let given = h.hash;
     if !place::is_hash(given) {
         return keep(images, crate::INVALID_REQ);

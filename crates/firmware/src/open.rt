@@ -3,7 +3,7 @@ use crate::Answered;
 use crate::load;
 use crate::place;
 use csmp::Image;
-use decode::Transfer;
+use decode_image::Transfer;
 use protobuf::Number;
 use state::Device;
 use state::Images;
@@ -15,19 +15,19 @@ fn sized_texts(t: Transfer) -> bool
     ensures { λ r. ⌜ r ≡ sizedTexts t ⌝ }
 {
     let hw_id = t.hw_id;
-    if !decode::at_most(hw_id, 32) {
+    if !csmp::at_most(hw_id, 32) {
         return false;
     }
     let vendor = t.vendor_hw_id;
-    if !decode::at_most(vendor, 32) {
+    if !csmp::at_most(vendor, 32) {
         return false;
     }
     let name = t.name;
-    if !decode::at_most(name, 128) {
+    if !csmp::at_most(name, 128) {
         return false;
     }
     let version = t.version;
-    decode::at_most(version, 32)
+    csmp::at_most(version, 32)
 }
 
 // Whether what must be there is there: a hash of 32 bytes, a size that is not 0, a block size.
@@ -58,12 +58,12 @@ fn is_ours(device: Device, v: &[u8], t: Transfer) -> bool
 {
     let ours = device.hw_id.bytes;
     let hw_id = t.hw_id;
-    if !protobuf::is_text(buffer::front(&ours, device.hw_id.len), v, hw_id, false) {
+    if !find::is_text(buffer::front(&ours, device.hw_id.len), v, hw_id, false) {
         return false;
     }
     let vendors = device.vendor_hw_id.bytes;
     let vendor = t.vendor_hw_id;
-    protobuf::is_text(
+    find::is_text(
         buffer::front(&vendors, device.vendor_hw_id.len),
         v,
         vendor,
@@ -157,7 +157,7 @@ fn open_or_keep(images: Images, image: Image) -> Answered
 pub fn answer_transfer(device: Device, images: Images, v: &[u8]) -> Answered
     ensures { λ r. ⌜ r ≡ transferAnswered device images (now (v .entry)) ⌝ }
 {
-    let t = decode::read_transfer(v);
+    let t = decode_image::read_transfer(v);
     if !is_whole(t) {
         return load::keep(images, crate::INVALID_REQ);
     }

@@ -37,7 +37,7 @@ pub(crate) fn hash_at(v: &[u8], place: Bytes) -> [u8; 32]
 pub fn echo(v: &[u8], number: u32) -> Hash
     ensures { λ r. ⌜ r ≡ echoed (now (v .entry)) number ⌝ }
 {
-    let place = protobuf::last_bytes(v, number);
+    let place = find::last_bytes(v, number);
     let given = is_hash(place);
     let bytes = hash_at(v, place);
     Hash { given, bytes }

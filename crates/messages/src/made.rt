@@ -92,21 +92,21 @@ fn responses() {
         given: false,
         bytes: [7; 32],
     };
-    let a = encode::put_response(&mut out, 0, 71, some, 0, Moment::Absent);
-    let b = encode::put_response(&mut out, a, 72, none, 6, Moment::Absent);
-    let n = encode::put_response(&mut out, b, 72, some, 0, Moment::At(Point(1)));
+    let a = encode_image::put_response(&mut out, 0, 71, some, 0, Moment::Absent);
+    let b = encode_image::put_response(&mut out, a, 72, none, 6, Moment::Absent);
+    let n = encode_image::put_response(&mut out, b, 72, some, 0, Moment::At(Point(1)));
     made(&out, n);
 }
 
 fn running() {
     let mut out = [0u8; 1024];
-    let n = encode::put_running(&mut out, 0, [0; 32]);
+    let n = encode_image::put_running(&mut out, 0, [0; 32]);
     made(&out, n);
 }
 
 fn backup() {
     let mut out = [0u8; 1024];
-    let n = encode::put_backup(&mut out, 0, [9; 32], Moment::At(Point(1700000000)));
+    let n = encode_image::put_backup(&mut out, 0, [9; 32], Moment::At(Point(1700000000)));
     made(&out, n);
 }
 
@@ -133,7 +133,7 @@ fn open() {
         block_size: 1000,
         bitmap,
     };
-    let n = encode::put_open(&mut out, 0, image, 1, Moment::Absent);
+    let n = encode_image::put_open(&mut out, 0, image, 1, Moment::Absent);
     made(&out, n);
 }
 

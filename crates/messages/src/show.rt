@@ -109,7 +109,7 @@ pub fn session(v: &[u8]) {
 }
 
 pub fn report(v: &[u8]) {
-    let m = decode::read_report(v);
+    let m = decode_report::read_report(v);
     readable(m.readable);
     let every = m.interval;
     interval(every);
@@ -131,7 +131,7 @@ pub fn group(v: &[u8]) {
 }
 
 pub fn transfer(v: &[u8]) {
-    let m = decode::read_transfer(v);
+    let m = decode_image::read_transfer(v);
     readable(m.readable);
     let hw_id = m.hw_id;
     bytes(v, hw_id);
@@ -150,7 +150,7 @@ pub fn transfer(v: &[u8]) {
 }
 
 pub fn block(v: &[u8]) {
-    let m = decode::read_block(v);
+    let m = decode_image::read_block(v);
     readable(m.readable);
     let file_hash = m.hash;
     bytes(v, file_hash);
@@ -161,7 +161,7 @@ pub fn block(v: &[u8]) {
 }
 
 pub fn load(v: &[u8]) {
-    let m = decode::read_load(v);
+    let m = decode_image::read_load(v);
     readable(m.readable);
     let file_hash = m.hash;
     bytes(v, file_hash);
@@ -170,7 +170,7 @@ pub fn load(v: &[u8]) {
 }
 
 pub fn hash(v: &[u8]) {
-    let m = decode::read_hash(v);
+    let m = decode_image::read_hash(v);
     readable(m.readable);
     let file_hash = m.hash;
     bytes(v, file_hash);

@@ -12,8 +12,10 @@ use Rattle.buffer.specs.Pick.{pick}
 use Rattle.buffer.specs.Put.{Put, Appended}
 use Rattle.buffer.specs.Same.{sameBytes}
 use Rattle.buffer.proofs.Puts.{appended-put, appended-none, appended-join, appended-all, appended-front}
-use Rattle.encode.specs.Write.{reportRecord, timeRecord, groupRecord, runningRecord, openRecord, backupRecord}
-use Rattle.encode.proofs.Sizes.{report-most, time-most, group-most, running-most, open-most, backup-most}
+use Rattle.encode.specs.Write.{reportRecord, timeRecord, groupRecord}
+use Rattle.encode_image.specs.Write.{runningRecord, openRecord, backupRecord}
+use Rattle.encode.proofs.Sizes.{report-most, time-most, group-most}
+use Rattle.encode_image.proofs.Sizes.{running-most, open-most, backup-most}
 use Rattle.schedule.specs.declared.Moment.{Moment}
 use Rattle.schedule.specs.declared.Moment.the-variants.{At, Absent}
 use Rattle.schedule.specs.declared.Point.{Point}

@@ -5,7 +5,8 @@ use mathlib.Core.Bool.{_&&_}
 use lib.ListN.{take}
 use Rattle.buffer.specs.Pick.{pick}
 use Rattle.buffer.specs.Same.{sameBytes}
-use Rattle.encode.specs.Write.{reportRecord, timeRecord, groupRecord, runningRecord, openRecord, backupRecord}
+use Rattle.encode.specs.Write.{reportRecord, timeRecord, groupRecord}
+use Rattle.encode_image.specs.Write.{runningRecord, openRecord, backupRecord}
 use Rattle.csmp.specs.declared.Image.{Image}
 use Rattle.schedule.specs.declared.Moment.{Moment}
 use Rattle.schedule.specs.declared.Moment.the-variants.{At, Absent}

@@ -81,7 +81,7 @@ fn put_open(images: Images, out: &mut [u8], at: usize) -> usize
     let pending = images.pending;
     let hash = images.image.hash;
     let time = load_time(pending, hash);
-    encode::put_open(out, at, image, map_len(image), time)
+    encode_image::put_open(out, at, image, map_len(image), time)
 }
 
 // FirmwareImageInfo of the backup.
@@ -95,7 +95,7 @@ fn put_backup(images: Images, out: &mut [u8], at: usize) -> usize
     let pending = images.pending;
     let hash = images.backup.bytes;
     let time = load_time(pending, hash);
-    encode::put_backup(out, at, hash, time)
+    encode_image::put_backup(out, at, hash, time)
 }
 
 // FirmwareImageInfo in its rows: running, open, backup.
@@ -103,7 +103,7 @@ fn put_images(images: Images, out: &mut [u8], at: usize) -> usize
     ensures { λ r. ⌜ Appended (now (out .entry)) at (imagesShown images) (now (out .exit)) r ⌝ }
 {
     let running = images.running;
-    let a = encode::put_running(out, at, running);
+    let a = encode_image::put_running(out, at, running);
     let b = put_open(images, out, a);
     put_backup(images, out, b)
 }

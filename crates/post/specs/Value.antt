@@ -6,7 +6,9 @@ use lib.ListN.{take}
 use lib.Dec.{eqb, leb, ltb}
 use Rattle.buffer.specs.Listed.{listed}
 use Rattle.buffer.specs.Pick.{pick}
-use Rattle.decode.specs.Read.{plain, redirectOf, groupOf, transferOf, blockOf, loadOf, hashOf, validityOf}
+use Rattle.nesting.specs.Readable.{plain}
+use Rattle.decode.specs.Read.{redirectOf, groupOf, validityOf}
+use Rattle.decode_image.specs.Read.{transferOf, blockOf, loadOf, hashOf}
 use Rattle.protobuf.specs.declared.Number.{Number}
 use Rattle.protobuf.specs.declared.Number.the-variants.{Given, Absent}
 use Rattle.schedule.specs.declared.Point.{Point}

@@ -9,7 +9,7 @@ use lib.ListN.{length}
 use Rattle.buffer.specs.Pick.{pick}
 use Rattle.buffer.specs.Walk.{Step, item, unreadable, ended, onward, walkFor, walk}
 use Rattle.buffer.proofs.Walks.{Advances}
-use Rattle.protobuf.specs.Statements.{Each}
+use Rattle.protobuf.specs.Each.{Each}
 
 module _ {A : Type 0} where
   -- what holds of both holds of the one that is picked

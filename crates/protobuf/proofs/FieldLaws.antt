@@ -21,7 +21,7 @@ use Rattle.varint.specs.declared.Varint.the-variants.{Number, Unreadable as Uns
 use Rattle.varint.proofs.Stretched.{delimited-inside}
 use Rattle.varint.proofs.Theorems.{inside}
 use Rattle.protobuf.specs.Field.{numbered, held, spanned, contentAt, ofTag, fieldAt, stepped, fieldStep, fieldsFrom}
-use Rattle.protobuf.specs.Statements.{Each}
+use Rattle.protobuf.specs.Each.{Each}
 use Rattle.protobuf.specs.declared.Field.{Field}
 use Rattle.protobuf.specs.declared.Step.{Step}
 use Rattle.protobuf.specs.declared.Step.the-variants.{Field as Whole, Unreadable}

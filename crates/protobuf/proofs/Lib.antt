@@ -1,11 +1,3 @@
 pub mod EachLaws
 pub mod FieldLaws
-pub mod FindLaws
-pub mod NestLaws
-pub mod TableFields
-pub mod TableContents
-pub mod TableShape
-pub mod TableValues
-pub mod TableReadable
-pub mod TableFind
-pub mod Theorems
+pub mod SizeLaws

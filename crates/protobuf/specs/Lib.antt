@@ -1,6 +1,4 @@
+pub mod Each
 pub mod Field
-pub mod Find
-pub mod Readable
+pub mod Given
 pub mod Write
-pub mod Table
-pub mod Statements

@@ -1,16 +1,6 @@
-// Protocol Buffers messages: walking the fields of a lent message, whether it can be read, the field that
-// counts, and writing. Nothing is copied out: a field says where its bytes stand.
-mod find;
-mod nesting;
+// Fields of Protocol Buffers messages, read from a lent message and written. Nothing is copied out: a field says where its bytes stand.
 mod write;
 
-pub use find::count;
-pub use find::is_text;
-pub use find::last_bytes;
-pub use find::last_flag;
-pub use find::last_number;
-pub use find::part_bytes;
-pub use nesting::readable;
 pub use write::put_bytes;
 pub use write::put_bytes_if;
 pub use write::put_given;

@@ -1,9 +1,8 @@
 // Writing fields: the shortest varints.
 use crate::Number;
 ghost use Rattle.buffer.specs.Put.{Put};
-ghost use Rattle.protobuf.specs.Table.{ifAny, ifGiven};
-ghost use Rattle.protobuf.specs.Statements.{numberGiven};
-ghost use Rattle.protobuf.specs.Write.{numberField, bytesHead, bytesField};
+ghost use Rattle.protobuf.specs.Write.{ifAny, numberField, bytesHead, bytesField};
+ghost use Rattle.protobuf.specs.Given.{ifGiven, numberGiven};
 
 // Appends a field that holds a number.
 pub fn put_number(out: &mut [u8], at: usize, number: u32, value: u64) -> usize

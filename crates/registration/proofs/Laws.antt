@@ -10,9 +10,9 @@ use lib.Dec.{eqb}
 use lib.ListN.{length, take, drop, length-take, length-drop}
 use Rattle.decode.specs.Read.{redirectOf}
 use Rattle.decode.specs.declared.Redirect.{Redirect}
-use Rattle.protobuf.specs.Find.{bytesIn}
+use Rattle.find.specs.Find.{bytesIn}
 use Rattle.protobuf.specs.declared.Bytes.the-variants.{At, Absent}
-use Rattle.protobuf.proofs.FindLaws.{bytes-within}
+use Rattle.find.proofs.FindLaws.{bytes-within}
 use Rattle.state.specs.Setup.{urlOf}
 use Rattle.state.specs.declared.Device.{Device}
 use Rattle.state.specs.declared.Registration.{Registration}

@@ -4,7 +4,7 @@ use mathlib.Core.List.{List, [], _∷_}
 use mathlib.Core.Bool.{Bool, true, false}
 use mathlib.Core.Option.{Option, none, some}
 use Rattle.decode.specs.Read.{redirectOf}
-use Rattle.protobuf.specs.Statements.{bytesGiven}
+use Rattle.protobuf.specs.Given.{bytesGiven}
 use Rattle.protobuf.specs.declared.Flag.{Flag}
 use Rattle.protobuf.specs.declared.Flag.the-variants.{Given, Absent}
 use Rattle.state.specs.Setup.{urlOf}

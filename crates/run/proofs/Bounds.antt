@@ -10,17 +10,18 @@ use lib.ListN.{length, replicate}
 use lib.Seq.{length-sets}
 use Rattle.buffer.specs.Pick.{pick}
 use Rattle.buffer.specs.Same.{sameBytes}
-use Rattle.decode.specs.Read.{loadOf, hashOf, transferOf, momentOf}
-use Rattle.encode.specs.Write.{momentNumber}
+use Rattle.decode_image.specs.Read.{loadOf, hashOf, transferOf}
+use Rattle.csmp.specs.Values.{momentOf, momentNumber}
 use Rattle.csmp.specs.declared.Image.{Image}
-use Rattle.decode.specs.declared.Transfer.{Transfer}
-use Rattle.encode.proofs.WriteLaws.{timeField, word-most, response-record-most}
+use Rattle.decode_image.specs.declared.Transfer.{Transfer}
+use Rattle.encode_image.proofs.Sizes.{timeField, response-record-most}
+use Rattle.protobuf.proofs.SizeLaws.{word-most}
 use Rattle.firmware.specs.Load.{isOpen, isBackup, isPending, openFault, sourceFault, pendingFault, loads, loadsAt, loadAnswered, cancels, cancelAnswered, backs, backupAnswered}
 use Rattle.firmware.specs.Open.{isWhole, isOurs, faultOf, replaced, opens, openIf, transferAnswered}
 use Rattle.firmware.specs.Place.{isHash, bytesAt, hashAt, echoed}
 use Rattle.firmware.specs.declared.Answered.{Answered}
-use Rattle.protobuf.specs.Find.{numberOf, numberIn, lastIn, bytesIn}
-use Rattle.protobuf.specs.Table.{ifAny}
+use Rattle.find.specs.Find.{numberOf, numberIn, lastIn, bytesIn}
+use Rattle.protobuf.specs.Write.{ifAny}
 use Rattle.protobuf.specs.declared.Bytes.{Bytes}
 use Rattle.protobuf.specs.declared.Bytes.the-variants.{At as Lies, Absent as NoBytes}
 use Rattle.protobuf.specs.declared.Found.{Found}

@@ -8,11 +8,11 @@ use borrow.Author.Tests.{eq-eqb, ne-eqb}
 use lib.ListN.{length}
 use Rattle.buffer.specs.Put.{Put, placed, after}
 use Rattle.buffer.proofs.Stretches.{fits-true}
-use Rattle.decode.specs.Read.{loadOf}
-use Rattle.encode.specs.Write.{responseRecord}
+use Rattle.decode_image.specs.Read.{loadOf}
+use Rattle.encode_image.specs.Write.{responseRecord}
 use Rattle.csmp.specs.declared.Hash.{Hash}
 use Rattle.csmp.specs.declared.Image.{Image}
-use Rattle.decode.specs.declared.Load.{Load}
+use Rattle.decode_image.specs.declared.Load.{Load}
 use Rattle.firmware.specs.Load.{loadAnswered, cancelAnswered, backupAnswered}
 use Rattle.firmware.specs.Open.{transferAnswered}
 use Rattle.firmware.specs.Place.{echoed}

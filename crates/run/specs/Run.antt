@@ -7,8 +7,8 @@ use lib.Dec.{eqb}
 use lib.Seq.{sets}
 use Rattle.buffer.specs.Pick.{pick}
 use Rattle.buffer.specs.Put.{Put}
-use Rattle.decode.specs.Read.{loadOf}
-use Rattle.encode.specs.Write.{responseRecord}
+use Rattle.decode_image.specs.Read.{loadOf}
+use Rattle.encode_image.specs.Write.{responseRecord}
 use Rattle.csmp.specs.declared.Hash.{Hash}
 use Rattle.firmware.specs.Load.{loadAnswered, cancelAnswered, backupAnswered}
 use Rattle.firmware.specs.Open.{transferAnswered}

@@ -20,7 +20,7 @@ fn respond(ran: Ran, answered: Answered, out: &mut [u8], kind: u64, hash: Hash, 
 {
     let images = answered.images;
     let registration = ran.registration;
-    let end = encode::put_response(out, ran.end, kind, hash, answered.answer, time);
+    let end = encode_image::put_response(out, ran.end, kind, hash, answered.answer, time);
     Ran {
         images,
         registration,
@@ -43,7 +43,7 @@ fn load_time(answer: u32, v: &[u8]) -> Moment
     if answer != 0 {
         return Moment::Absent;
     }
-    let load = decode::read_load(v);
+    let load = decode_image::read_load(v);
     load.time
 }
 

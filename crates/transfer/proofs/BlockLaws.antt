@@ -8,13 +8,13 @@ use lib.Dec.{eqb}
 use lib.ListN.{length, take, drop}
 use lib.Seq.{sets}
 use Rattle.buffer.specs.Pick.{pick}
-use Rattle.decode.specs.Read.{blockOf}
-use Rattle.decode.specs.declared.Block.{Block}
+use Rattle.decode_image.specs.Read.{blockOf}
+use Rattle.decode_image.specs.declared.Block.{Block}
 use Rattle.csmp.specs.declared.Image.{Image}
-use Rattle.protobuf.specs.Find.{isText}
+use Rattle.find.specs.Find.{isText}
 use Rattle.protobuf.specs.declared.Bytes.the-variants.{At, Absent}
 use Rattle.protobuf.specs.declared.Number.the-variants.{Given, Absent as NoNumber}
-use Rattle.protobuf.proofs.FindLaws.{bytes-within}
+use Rattle.find.proofs.FindLaws.{bytes-within}
 use Rattle.transfer.specs.Bitmap.{held, marked, withBitmap}
 use Rattle.transfer.specs.Block.{fitsAt, Flash, putBlock, offered, takeBlock, Left}
 use Rattle.transfer.specs.Blocks.{blocks, blockLength}

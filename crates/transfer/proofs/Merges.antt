@@ -2,7 +2,7 @@
 use mathlib.Core.Path.{_≡_, refl, sym, ap, _∙_}
 use mathlib.Core.List.{List, [], _∷_}
 use Rattle.csmp.specs.declared.Image.{Image}
-use Rattle.protobuf.specs.Statements.{Each}
+use Rattle.protobuf.specs.Each.{Each}
 use Rattle.transfer.proofs.Puts.{agree-put, put-swap}
 use Rattle.transfer.specs.Block.{Flash, Offer, putBlock}
 use Rattle.transfer.specs.Merge.{Merge, none, first, second, putAll, Agree, Agreeing, Merges}

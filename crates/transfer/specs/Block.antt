@@ -8,10 +8,10 @@ use lib.ListN.{length}
 use lib.Dec.{eqb, ltb}
 use lib.Seq.{sets}
 use Rattle.buffer.specs.Pick.{pick}
-use Rattle.decode.specs.Read.{blockOf}
+use Rattle.decode_image.specs.Read.{blockOf}
 use Rattle.csmp.specs.declared.Image.{Image}
-use Rattle.protobuf.specs.Find.{isText}
-use Rattle.protobuf.specs.Statements.{numberGiven, bytesGiven}
+use Rattle.find.specs.Find.{isText}
+use Rattle.protobuf.specs.Given.{numberGiven, bytesGiven}
 use Rattle.transfer.specs.Blocks.{blocks, blockLength}
 use Rattle.transfer.specs.Bitmap.{held, marked, withBitmap}
 

@@ -8,7 +8,7 @@ use lib.Dec.{eqb}
 use lib.ListN.{length, take, drop}
 use Rattle.buffer.specs.Pick.{pick}
 use Rattle.csmp.specs.declared.Image.{Image}
-use Rattle.protobuf.specs.Statements.{Each}
+use Rattle.protobuf.specs.Each.{Each}
 use Rattle.transfer.specs.Blocks.{blocks, blockLength}
 use Rattle.transfer.specs.Bitmap.{held, complete, withBitmap}
 use Rattle.transfer.specs.Block.{Flash, Offer, Sound, fitsAt, putBlock}

@@ -49,10 +49,10 @@ fn put_block(image: Image, flash: &mut [u8], n: u32, bytes: &[u8]) -> Image
 pub fn take_block(image: Image, flash: &mut [u8], v: &[u8]) -> Image
     ensures { λ r. ⌜ Left (takeBlock image (now (flash .entry)) (now (v .entry))) r (now (flash .exit)) ⌝ }
 {
-    let block = decode::read_block(v);
+    let block = decode_image::read_block(v);
     let hash = image.hash;
     let given = block.hash;
-    if !protobuf::is_text(&hash, v, given, false) {
+    if !find::is_text(&hash, v, given, false) {
         return image;
     }
     let number = block.number;

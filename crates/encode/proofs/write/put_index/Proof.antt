@@ -7,10 +7,11 @@ use lib.ListN.{length, take, replicate}
 use lib.Seq.{length-take-le}
 use Rattle.buffer.proofs.Puts.{done, next, Whole}
 use Rattle.decimal.specs.Decimal.{decimal}
-use Rattle.protobuf.specs.Table.{written, writeBy}
+use Rattle.tables.specs.Table.{written, writeBy}
 use Rattle.csmp.specs.Tables
 use Rattle.encode.specs.Write.{indexRecord}
-use Rattle.encode.proofs.WriteLaws.{texts-each, list-most, nil, upto, whole, room-texts}
+use Rattle.encode.proofs.WriteLaws.{texts-each, list-most, room-texts}
+use Rattle.protobuf.proofs.SizeLaws.{nil, upto, whole}
 use borrow.Author.Needs.{needs}
 use Rattle.encode.proofs.write.put_index.Statement.{statement}
 use Rattle.encode.proofs.write.put_index.Tie as tie

@@ -8,11 +8,13 @@ use lib.Seq.{length-take-le}
 use Rattle.buffer.proofs.Puts.{done, next, Whole}
 use Rattle.decimal.specs.Decimal.{decimal}
 use Rattle.decimal.specs.Ids.{held}
-use Rattle.protobuf.specs.Statements.{numberGiven}
-use Rattle.protobuf.specs.Table.{written, writeBy}
+use Rattle.protobuf.specs.Given.{numberGiven}
+use Rattle.tables.specs.Table.{written, writeBy}
 use Rattle.csmp.specs.Tables
-use Rattle.encode.specs.Write.{intervalNumber, reportRecord}
-use Rattle.encode.proofs.WriteLaws.{texts-each, number-if-most, texts-most, list-most, nil, upto, whole, room-texts}
+use Rattle.csmp.specs.Values.{intervalNumber}
+use Rattle.encode.specs.Write.{reportRecord}
+use Rattle.encode.proofs.WriteLaws.{texts-each, texts-most, list-most, room-texts}
+use Rattle.protobuf.proofs.SizeLaws.{number-if-most, nil, upto, whole}
 use borrow.Author.Needs.{needs}
 use Rattle.encode.proofs.write.put_report.Statement.{statement}
 use Rattle.encode.proofs.write.put_report.Tie as tie

@@ -1,5 +1,5 @@
 -- `protobuf::write::put_bytes_if` meets its contract: the definition at either case.
-use Rattle.protobuf.specs.Table.{ifAny}
+use Rattle.protobuf.specs.Write.{ifAny}
 use borrow.Author.Needs.{needs}
 use Rattle.protobuf.proofs.write.put_bytes_if.Statement.{statement}
 use Rattle.protobuf.proofs.write.put_bytes_if.Tie as tie

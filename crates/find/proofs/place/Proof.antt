@@ -1,0 +1,23 @@
+-- `find::place` meets its contract: the definition at either case.
+use mathlib.Core.Path.{sym, ap}
+use Rattle.find.specs.Find.{placeOf}
+use borrow.Author.Needs.{needs}
+use Rattle.find.proofs.place.Statement.{statement}
+use Rattle.find.proofs.place.Tie as tie
+
+enum-known-found : tie.Need-enum-known-found
+enum-known-found c = search needs
+
+enum-told : tie.Need-enum-told
+enum-told c = search needs
+
+returns : tie.Need-returns
+unfolding placeOf
+returns c = sym (ap placeOf (c .enum-told .given .1))
+
+returns-2 : tie.Need-returns-2
+unfolding placeOf
+returns-2 c = sym (ap placeOf (c .before .found .given .1))
+
+pub place-spec : {M : Type 1} → statement M
+place-spec = tie.close (tie.spec enum-known-found enum-told returns returns-2)

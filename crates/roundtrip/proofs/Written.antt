@@ -1,0 +1,98 @@
+-- What `specs/Written.antt` states.
+use Prim.Native.Nat.{ℕ, _^_, _≤_, _<_}
+use mathlib.Core.Path.{_≡_, refl, sym, ap, _∙_}
+use mathlib.Core.List.{List, [], _∷_, map, append-nil}
+use native.Mathlib.Nat.{le-of-eq}
+use native.Mathlib.Omega.{arith}
+use lib.ListN.{length, take, length-append}
+use Rattle.decimal.proofs.Theorems.{round-trip as id-back}
+use Rattle.decimal.specs.Decimal.{decimal, idThen, idsAmong}
+use Rattle.tables.proofs.Theorems.{round-trip as fields-back}
+use Rattle.tables.specs.Statements.{Ordered, levels, Small, Writable}
+use Rattle.protobuf.specs.Each.{Each}
+use Rattle.protobuf.specs.Given.{numberGiven}
+use Rattle.tables.specs.Table.{Table, Values, written, writeBy}
+use Rattle.protobuf.specs.Write.{ifAny, numberField, bytesField}
+use Rattle.tlv.proofs.Theorems.{round-trip as records-back}
+use Rattle.tlv.specs.Record.{Tlv, recordBytes, payload}
+use Rattle.tlv.specs.Statements.{Fitting, none as no-record, one as a-record}
+use Rattle.varint.specs.Varint.{continued, spelling, varint, two, delimited}
+use Rattle.roundtrip.specs.Written.{Samples, Back, Answered, WrittenBack}
+use Rattle.csmp.specs.Values.{momentNumber, intervalNumber}
+use Rattle.encode.specs.Write.{indexRecord, sessionRecord, reportRecord, timeRecord, groupRecord}
+use Rattle.encode_image.specs.Write.{responseRecord, runningRecord, openRecord, backupRecord}
+use Rattle.protobuf.proofs.SizeLaws.{number-most, bytes-most, number-if-most, bytes-if-most, take-most}
+use Rattle.encode.proofs.WriteLaws.{list-most}
+
+pub samples : Samples
+unfolding continued spelling varint two delimited numberField bytesField ifAny written writeBy momentNumber sessionRecord responseRecord
+samples = refl
+
+-- what is written by a table reads back
+back : {k : ℕ} {T : Table} {v : Values T} {bytes : List ℕ} → (k < 2 ^ 64) × Ordered 0 T × (levels T ≤ 4) → Small T v → length (writeBy T v) < 2 ^ 64
+    → bytes ≡ recordBytes k (writeBy T v) → Back k T v bytes
+unfolding payload
+back {k} {T} {v} h small short e =
+    let rs : List Tlv = record { kind = k; value = writeBy T v } ∷ [] in
+    let f : Fitting rs = a-record (h .0) short no-record in
+    let w : Writable T v = record { ordered = h .1; shallow = h .2; small = small; short = short } in
+    let p = e ∙ sym (append-nil (recordBytes k (writeBy T v))) in
+    record {
+      form = e;
+      one = rw p (records-back .back rs f);
+      whole = rw p (records-back .whole rs f);
+      fields = fields-back .whole T v w;
+      values = fields-back .back T v w;
+    }
+
+-- a response with no load time, by its own table
+answered : (k : ℕ) → k < 2 ^ 64 → Answered k
+unfolding responseRecord momentNumber writeBy written ifAny
+answered k g h answer l a =
+    back (omega arith) (tt, (a, tt)) (simp length-append (omega (arith, bytes-if-most 1 32 (h .given) (h .bytes) (le-of-eq l), number-most 2 answer))) refl
+
+-- ids that are written as texts are the ids among them
+ids-back : (ids : List ℕ) → Each (λ (id : ℕ). id < 2 ^ 32) ids → idsAmong (map decimal ids) ≡ ids
+unfolding idsAmong idThen
+ids-back [] h = refl
+ids-back (id ∷ ids) h = rw (id-back .back id (h .0)) (ap (_∷_ id) (ids-back ids (h .1)))
+
+pub written-back : WrittenBack
+unfolding indexRecord sessionRecord reportRecord timeRecord groupRecord responseRecord runningRecord openRecord backupRecord writeBy written ifAny momentNumber
+written-back =
+    record {
+      index = λ i l. back (omega arith) (tt, tt) (simp length-append (omega (arith, list-most 1 68 (i .count) (i .list) l))) refl;
+      sessionId = λ s l. back (omega arith) (tt, tt) (simp length-append (omega (arith, bytes-most 1 64 (take (s .len) (s .bytes)) (take-most (s .len) 64 (s .bytes) l)))) refl;
+      report = λ i ids h hids a l b m. back (omega arith) (a, (tt, (b, (tt, tt))))
+          (simp length-append (omega (
+            arith,
+            number-if-most 1 (numberGiven (intervalNumber i)),
+            list-most 2 32 (ids .count) (ids .list) l,
+            number-if-most 3 (numberGiven (intervalNumber h)),
+            list-most 4 32 (hids .count) (hids .list) m,
+          ))) refl;
+      time = λ p a. back (omega arith) (a, (tt, (tt, tt))) (simp length-append (omega (arith, number-most 1 (p .0)))) refl;
+      groupInfo = λ kind id a b. back (omega arith) (a, (b, tt)) (simp length-append (omega (arith, number-most 1 kind, number-most 2 id))) refl;
+      transferred = answered 71 (omega arith);
+      loaded = λ h answer t l a b. back (omega arith) (tt, (a, (b, tt)))
+          (simp length-append (omega (arith, bytes-if-most 1 32 (h .given) (h .bytes) (le-of-eq l), number-most 2 answer, number-if-most 3 (numberGiven (momentNumber t))))) refl;
+      cancelled = answered 73 (omega arith);
+      backedUp = answered 74 (omega arith);
+      running = λ hash l. back (omega arith) (omega arith)
+          (simp length-append (omega (arith, number-most 1 0, bytes-most 2 32 hash (le-of-eq l), number-most 9 1))) refl;
+      opened = λ i n t h a. back (omega arith) (omega arith, (tt, (tt, (tt, (h .size, (h .block, (tt, (tt, (tt, (a, (tt, (tt, tt))))))))))))
+          (simp length-append (omega (
+            arith,
+            number-most 1 1,
+            bytes-most 2 32 (i .hash) (le-of-eq (h .hash)),
+            bytes-if-most 3 128 (i .name .given) (take (i .name .len) (i .name .bytes)) (take-most (i .name .len) 128 (i .name .bytes) (h .name)),
+            bytes-if-most 4 32 (i .version .given) (take (i .version .len) (i .version .bytes)) (take-most (i .version .len) 32 (i .version .bytes) (h .version)),
+            number-most 5 (i .size),
+            number-most 6 (i .«block_size»),
+            bytes-most 7 128 (take n (i .bitmap)) (take-most n 128 (i .bitmap) (h .bitmap)),
+            number-if-most 10 (numberGiven (momentNumber t)),
+          ))) refl;
+      backup = λ hash t l a. back (omega arith) (omega arith, (tt, (tt, (tt, (tt, (tt, (tt, (tt, (tt, (a, (tt, (tt, tt))))))))))))
+          (simp length-append (omega (arith, number-most 1 2, bytes-most 2 32 hash (le-of-eq l), number-if-most 10 (numberGiven (momentNumber t))))) refl;
+      ids = ids-back;
+    }

@@ -1,0 +1,105 @@
+-- What is proved of the writers, beyond the functions' contracts.
+use Prim.Native.Nat.{ℕ, _^_, _<_}
+use mathlib.Core.Path.{_≡_}
+use mathlib.Core.List.{List, [], _∷_, map}
+use mathlib.Core.Bool.{true, false}
+use mathlib.Core.Option.{none, some}
+use lib.ListN.{length, take, replicate}
+use Rattle.decimal.specs.Decimal.{decimal, idsAmong}
+use Rattle.decimal.specs.Ids.{held}
+use Rattle.decimal.specs.declared.Ids.{Ids}
+use Rattle.protobuf.specs.Each.{IfAny, Each}
+use Rattle.protobuf.specs.Given.{numberGiven, ifGiven}
+use Rattle.tables.specs.Table.{Table, Values, readable, readBy, writeBy}
+use Rattle.protobuf.specs.declared.Number.{Number}
+use Rattle.schedule.specs.declared.Interval.{Interval}
+use Rattle.schedule.specs.declared.Moment.{Moment}
+use Rattle.schedule.specs.declared.Moment.the-variants.{Absent as Never}
+use Rattle.schedule.specs.declared.Point.{Point}
+use Rattle.tlv.specs.Record.{recordBytes, records, readable as wholly}
+use Rattle.csmp.specs.Tables.{tlvIndex, session, reportSubscribe, currentTime, group, response, loadResponse, imageInfo}
+use Rattle.csmp.specs.Values.{momentNumber, intervalNumber}
+use Rattle.encode.specs.Write.{indexRecord, sessionRecord, reportRecord, timeRecord, groupRecord}
+use Rattle.encode_image.specs.Write.{responseRecord, runningRecord, openRecord, backupRecord}
+use Rattle.csmp.specs.declared.Hash.{Hash}
+use Rattle.csmp.specs.declared.Image.{Image}
+use Rattle.csmp.specs.declared.Index.{Index}
+use Rattle.csmp.specs.declared.SessionId.{SessionId}
+
+-- a sample: what is written, and its bytes
+pub record Sample : Type 0 where
+  pub written : List ℕ
+  pub bytes : List ℕ
+
+-- document 01, "Sample values": session "ab"; GroupAssign 1, 300; record 72 without hash, answer 6
+abbrev pub samples : List Sample
+samples =
+    record { written = sessionRecord (record { bytes = 97 ∷ 98 ∷ replicate 62 0; len = 2 }); bytes = 0x07 ∷ 0x04 ∷ 0x0A ∷ 0x02 ∷ 0x61 ∷ 0x62 ∷ [] }
+    ∷ record { written = recordBytes 55 (writeBy group (some 1, (some 300, tt))); bytes = 0x37 ∷ 0x05 ∷ 0x08 ∷ 0x01 ∷ 0x10 ∷ 0xAC ∷ 0x02 ∷ [] }
+    ∷ record { written = responseRecord 72 (record { given = false; bytes = replicate 32 0 }) 6 Never; bytes = 0x48 ∷ 0x02 ∷ 0x10 ∷ 0x06 ∷ [] }
+    ∷ []
+
+abbrev pub Samples : Type 0
+Samples = map (λ (x : Sample). x .written) samples ≡ map (λ (x : Sample). x .bytes) samples
+
+-- bytes that are, as a payload, exactly one record of type k, and whose value read by table T gives v
+pub record Back (k : ℕ) (T : Table) (v : Values T) (bytes : List ℕ) : Type 0 where
+  pub form : bytes ≡ recordBytes k (writeBy T v)
+  pub one : records bytes ≡ record { kind = k; value = writeBy T v } ∷ []
+  pub whole : wholly bytes ≡ true
+  pub fields : readable T (writeBy T v) ≡ true
+  pub values : readBy T (writeBy T v) ≡ v
+
+-- a number that is given is below 2^32
+abbrev pub Below : Number → Type 0
+Below n = IfAny (λ (x : ℕ). x < 2 ^ 32) (numberGiven n)
+
+-- what the types of an image's fields say
+pub record Typed (i : Image) : Type 0 where
+  pub hash : length (i .hash) ≡ 32
+  pub name : length (i .name .bytes) ≡ 128
+  pub version : length (i .version .bytes) ≡ 32
+  pub size : i .size < 2 ^ 32
+  pub block : i .«block_size» < 2 ^ 32
+  pub bitmap : length (i .bitmap) ≡ 128
+
+-- a response with no load time
+abbrev pub Answered : ℕ → Type 0
+Answered k =
+    (h : Hash) (answer : ℕ) → length (h .bytes) ≡ 32 → answer < 2 ^ 32
+    → Back k response (ifGiven (h .given) (h .bytes), (some answer, tt)) (responseRecord k h answer Never)
+
+-- what the agent writes reads back
+pub record WrittenBack : Type 0 where
+  -- 1 TlvIndex
+  pub index : (i : Index) → length (i .list) ≡ 68 → Back 1 tlvIndex (map decimal (take (i .count) (i .list)), tt) (indexRecord i)
+  -- 7 SessionID
+  pub sessionId : (s : SessionId) → length (s .bytes) ≡ 64 → Back 7 session (some (take (s .len) (s .bytes)), tt) (sessionRecord s)
+  -- 13 ReportSubscribe
+  pub report : (i : Interval) (ids : Ids) (h : Interval) (hids : Ids)
+      → Below (intervalNumber i) → length (ids .list) ≡ 32 → Below (intervalNumber h) → length (hids .list) ≡ 32
+      → Back 13 reportSubscribe (numberGiven (intervalNumber i), (map decimal (held ids), (numberGiven (intervalNumber h), (map decimal (held hids), tt)))) (reportRecord i ids h hids)
+  -- 18 CurrentTime
+  pub time : (p : Point) → p .0 < 2 ^ 32 → Back 18 currentTime (some (p .0), (none, (none, tt))) (timeRecord p)
+  -- 58 GroupInfo
+  pub groupInfo : (kind id : ℕ) → kind < 2 ^ 32 → id < 2 ^ 32 → Back 58 group (some kind, (some id, tt)) (groupRecord kind id)
+  -- 71 TransferResponse
+  pub transferred : Answered 71
+  -- 72 LoadResponse
+  pub loaded : (h : Hash) (answer : ℕ) (t : Moment) → length (h .bytes) ≡ 32 → answer < 2 ^ 32 → Below (momentNumber t)
+      → Back 72 loadResponse (ifGiven (h .given) (h .bytes), (some answer, (numberGiven (momentNumber t), tt))) (responseRecord 72 h answer t)
+  -- 73 CancelLoadResponse
+  pub cancelled : Answered 73
+  -- 74 SetBackupResponse
+  pub backedUp : Answered 74
+  -- 75 FirmwareImageInfo: running, open, backup
+  pub running : (hash : List ℕ) → length hash ≡ 32
+      → Back 75 imageInfo (some 0, (some hash, (none, (none, (none, (none, (none, (none, (some true, (none, (none, (none, tt)))))))))))) (runningRecord hash)
+  pub opened : (i : Image) (n : ℕ) (t : Moment) → Typed i → Below (momentNumber t)
+      → Back 75 imageInfo
+      (some 1, (some (i .hash), (ifGiven (i .name .given) (take (i .name .len) (i .name .bytes)), (ifGiven (i .version .given) (take (i .version .len) (i .version .bytes)), (some (i .size), (some (i .«block_size»), (some (take n (i .bitmap)), (none, (none, (numberGiven (momentNumber t), (none, (none, tt))))))))))))
+      (openRecord i n t)
+  pub backup : (hash : List ℕ) (t : Moment) → length hash ≡ 32 → Below (momentNumber t)
+      → Back 75 imageInfo (some 2, (some hash, (none, (none, (none, (none, (none, (none, (none, (numberGiven (momentNumber t), (none, (none, tt)))))))))))) (backupRecord hash t)
+  -- the ids of 1 and 13 are those among the texts
+  pub ids : (ids : List ℕ) → Each (λ (id : ℕ). id < 2 ^ 32) ids → idsAmong (map decimal ids) ≡ ids

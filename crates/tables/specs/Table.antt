@@ -1,0 +1,135 @@
+-- Messages by tables: one definition reads by a table of the known fields, one writes by it (document 01, "Records and fields").
+use Prim.Native.Nat.{ℕ, _%_, _^_}
+use mathlib.Core.List.{List, [], _∷_, _++_, map}
+use mathlib.Core.Bool.{Bool, true, false, not}
+use mathlib.Core.Option.{Option, none, some}
+use lib.ListN.{length}
+use lib.Dec.{eqb}
+use Rattle.buffer.specs.Pick.{pick}
+use Rattle.protobuf.specs.Field.{fields, bytesOf}
+use Rattle.nesting.specs.Readable.{messageReadable}
+use Rattle.protobuf.specs.Write.{numberField, bytesField, ifAny, each}
+use Rattle.protobuf.specs.declared.Field.{Field}
+
+-- What a field may hold, and the known fields of a message: each a number and a kind.
+mutual
+  pub data Kind : Type 0 where
+    uint32 : Kind
+    bool : Kind
+    bytes : Kind
+    strings : Kind
+    message : Table → Kind
+    messages : Table → Kind
+
+  pub data Table : Type 0 where
+    end : Table
+    row : ℕ → Kind → Table → Table
+
+-- What was read for a field, or is to be written: presence is kept, and a repeated field is a list. A message has a value for each row.
+abbrev mutual
+  pub Value : Kind → Type 0
+  Value uint32 = Option ℕ
+  Value bool = Option Bool
+  Value bytes = Option (List ℕ)
+  Value strings = List (List ℕ)
+  Value (message T) = Option (Values T)
+  Value (messages T) = List (Values T)
+
+  pub Values : Table → Type 0
+  Values end = Unit {0}
+  Values (row n k T) = Value k × Values T
+
+-- a field by what it holds, wherever it stood
+pub record Content : Type 0 where
+  pub number : ℕ
+  pub wire : ℕ
+  pub value : ℕ
+  pub bytes : List ℕ
+
+abbrev pub contentOf : List ℕ → Field → Content
+contentOf s f = record { number = f .number; wire = f .wire; value = f .value; bytes = bytesOf s f }
+
+unfoldable pub contents : List ℕ → List Content
+contents s = map (contentOf s) (fields s .items)
+
+-- those of a number and a wire type, in order: unknown fields, and known ones with another wire type, are skipped
+unfoldable pub alike : ℕ → ℕ → List Content → List Content
+alike n w [] = []
+alike n w (f ∷ fs) = pick (eqb (f .number) n) (pick (eqb (f .wire) w) (f ∷ alike n w fs) (alike n w fs)) (alike n w fs)
+
+-- the last one wins
+unfoldable pub lastOne : {A : Type 0} → (Content → A) → Option A → List Content → Option A
+lastOne g v [] = v
+lastOne g v (f ∷ fs) = lastOne g (some (g f)) fs
+
+-- uint32 takes the low 32 bits; a bool is true unless 0
+abbrev pub asNumber : Content → ℕ
+asNumber f = f .value % 2 ^ 32
+
+abbrev pub asFlag : Content → Bool
+asFlag f = not (eqb (f .value) 0)
+
+abbrev pub asBytes : Content → List ℕ
+asBytes f = f .bytes
+
+-- the parts of a nested message merge: their fields are read as those of one message
+unfoldable pub merged : List Content → List Content
+merged [] = []
+merged (f ∷ fs) = contents (f .bytes) ++ merged fs
+
+unfoldable pub whereAny : {A : Type 0} → (List Content → A) → List Content → Option A
+whereAny read [] = none
+whereAny read (f ∷ fs) = some (read (merged (f ∷ fs)))
+
+unfoldable mutual
+  -- a row's value among the fields of a message
+  pub valueOf : (k : Kind) → ℕ → List Content → Value k
+  valueOf uint32 n fs = lastOne asNumber none (alike n 0 fs)
+  valueOf bool n fs = lastOne asFlag none (alike n 0 fs)
+  valueOf bytes n fs = lastOne asBytes none (alike n 2 fs)
+  valueOf strings n fs = map asBytes (alike n 2 fs)
+  valueOf (message T) n fs = whereAny (λ (l : List Content). valuesOf T l) (alike n 2 fs)
+  valueOf (messages T) n fs = map (λ (f : Content). valuesOf T (contents (f .bytes))) (alike n 2 fs)
+
+  pub valuesOf : (T : Table) → List Content → Values T
+  valuesOf end fs = tt
+  valuesOf (row n k T) fs = (valueOf k n fs, valuesOf T fs)
+
+-- the shape of a table: which of its fields hold messages
+unfoldable mutual
+  pub kindShape : Kind → ℕ → List ℕ
+  kindShape uint32 n = []
+  kindShape bool n = []
+  kindShape bytes n = []
+  kindShape strings n = []
+  kindShape (message T) n = n ∷ length (shapeOf T) ∷ shapeOf T
+  kindShape (messages T) n = n ∷ length (shapeOf T) ∷ shapeOf T
+
+  pub shapeOf : Table → List ℕ
+  shapeOf end = []
+  shapeOf (row n k T) = kindShape k n ++ shapeOf T
+
+-- READING: whether a message can be read by a table, and its values
+unfoldable pub readable : Table → List ℕ → Bool
+readable T s = messageReadable 4 (shapeOf T) s
+
+unfoldable pub readBy : (T : Table) → List ℕ → Values T
+readBy T s = valuesOf T (contents s)
+
+-- WRITING: fields ascending, shortest varints, present fields only, zeros included
+abbrev pub flagNumber : Bool → ℕ
+flagNumber true = 1
+flagNumber false = 0
+
+unfoldable mutual
+  pub written : (k : Kind) → ℕ → Value k → List ℕ
+  written uint32 n v = ifAny (numberField n) v
+  written bool n v = ifAny (λ (b : Bool). numberField n (flagNumber b)) v
+  written bytes n v = ifAny (bytesField n) v
+  written strings n v = each (bytesField n) v
+  written (message T) n v = ifAny (λ (m : Values T). bytesField n (writeBy T m)) v
+  written (messages T) n v = each (λ (m : Values T). bytesField n (writeBy T m)) v
+
+  pub writeBy : (T : Table) → Values T → List ℕ
+  writeBy end v = []
+  writeBy (row n k T) v = written k n (v .0) ++ writeBy T (v .1)
