@@ -4,7 +4,7 @@ use mathlib.Core.Path.{_≡_, refl}
 use mathlib.Core.List.{List, [], _++_}
 use mathlib.Core.Bool.{Bool, true, false, not}
 use native.Mathlib.Omega.{arith}
-use borrow.Author.Tests.{ltb-true, ltb-false, lt-ltb, le-ltb, eq-eqb, ne-eqb}
+use borrow.Author.Tests.{not-true, not-false, ltb-true, ltb-false, lt-ltb, le-ltb, eq-eqb, ne-eqb}
 use lib.Dec.{eqb, ltb}
 use lib.ListN.{length, take}
 use Rattle.buffer.specs.Pick.{pick}
@@ -24,17 +24,16 @@ use Rattle.copy.specs.Shown.{copies, shownAll}
 use Rattle.copy.specs.declared.Choice.the-variants.{Only, Except}
 use Rattle.outgoing.specs.declared.Report.{Report}
 use Rattle.outgoing.specs.declared.Report.the-variants.{Primary, Heartbeat}
-use Rattle.own.proofs.Laws.{shown, shown-not}
 
 -- the session, where one is held
 module _ {out : List ℕ} {at : ℕ} (a : Assigned) where
   pub session-not : {left : List ℕ} {n : ℕ} → not (a .«in_session») ≡ true → Put out at [] left n → Appended out at (sessionShown a) left n
   unfolding sessionShown
-  session-not e p = shown-not (a .«in_session») _ e p
+  session-not e p = rw (not-true (a .«in_session») e) (appended-put p)
 
   pub session-put : {left : List ℕ} {n : ℕ} → not (a .«in_session») ≡ false → Put out at (sessionRecord (a .session)) left n → Appended out at (sessionShown a) left n
   unfolding sessionShown
-  session-put e p = shown (a .«in_session») _ e p
+  session-put e p = rw (not-false (a .«in_session») e) (appended-put p)
 
 -- the list of a report
 module _ (a : Assigned) (which : Report) where

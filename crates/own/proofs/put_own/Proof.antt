@@ -1,6 +1,7 @@
 -- `own::put_own` meets its contract: record by record, and there is room for all.
 use lib.ListN.{length-map}
-use Rattle.own.proofs.Laws.{AssignedSized, ImagesSized, own-all}
+use Rattle.images.proofs.Laws.{ImagesSized}
+use Rattle.own.proofs.Laws.{AssignedSized, own-all}
 use borrow.Author.Needs.{needs}
 use Rattle.own.proofs.put_own.Statement.{statement}
 use Rattle.own.proofs.put_own.Tie as tie
@@ -41,7 +42,7 @@ put-images-requires : tie.Need-put-images-requires
 put-images-requires c κs = search needs
 
 returns : tie.Need-returns
-returns c = own-all _ _ (search needs) (assigned-sized (c .before .before .before .before .before .before .before .before .before .before .before)) (images-sized (c .before .before .before .before .before .before .before .before .before .before .before)) (c .before .before .before .before .before .before .put-subscription .ensures) (c .before .before .before .before .put-time .ensures) (c .before .before .put-groups .ensures) (c .put-images .ensures)
+returns c = own-all _ _ (search needs) (assigned-sized (c .before .before .before .before .before .before .before .before)) (images-sized (c .before .before .before .before .before .before .before .before)) (c .before .before .before .before .before .before .put-subscription .ensures) (c .before .before .before .before .put-time .ensures) (c .before .before .put-groups .ensures) (c .put-images .ensures)
 
 pub put-own-spec : {M : Type 1} → statement M
 put-own-spec =

@@ -1,10 +1,10 @@
--- `own::map_len` meets its contract: a byte for each eight blocks, rounded up.
+-- `images::map_len` meets its contract: a byte for each eight blocks, rounded up.
 use native.Mathlib.Omega.{arith}
-use Rattle.own.specs.Own.{mapLength}
-use Rattle.own.proofs.Laws.{blocks-most}
+use Rattle.images.specs.Images.{mapLength}
+use Rattle.images.proofs.Laws.{blocks-most}
 use borrow.Author.Needs.{needs}
-use Rattle.own.proofs.map_len.Statement.{statement}
-use Rattle.own.proofs.map_len.Tie as tie
+use Rattle.images.proofs.map_len.Statement.{statement}
+use Rattle.images.proofs.map_len.Tie as tie
 
 block-count-requires : tie.Need-block-count-requires
 block-count-requires c κs = search needs

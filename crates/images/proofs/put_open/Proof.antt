@@ -1,8 +1,8 @@
--- `own::put_open` meets its contract: by whether an image is open.
-use Rattle.own.proofs.Laws.{open-not, open-put}
+-- `images::put_open` meets its contract: by whether an image is open.
+use Rattle.images.proofs.Laws.{open-not, open-put}
 use borrow.Author.Needs.{needs}
-use Rattle.own.proofs.put_open.Statement.{statement}
-use Rattle.own.proofs.put_open.Tie as tie
+use Rattle.images.proofs.put_open.Statement.{statement}
+use Rattle.images.proofs.put_open.Tie as tie
 
 slice-aggregate-put : tie.Need-slice-aggregate-put
 slice-aggregate-put c = search needs

@@ -1,8 +1,8 @@
--- `own::put_backup` meets its contract: by whether there is one.
-use Rattle.own.proofs.Laws.{backup-not, backup-put}
+-- `images::put_backup` meets its contract: by whether there is one.
+use Rattle.images.proofs.Laws.{backup-not, backup-put}
 use borrow.Author.Needs.{needs}
-use Rattle.own.proofs.put_backup.Statement.{statement}
-use Rattle.own.proofs.put_backup.Tie as tie
+use Rattle.images.proofs.put_backup.Statement.{statement}
+use Rattle.images.proofs.put_backup.Tie as tie
 
 slice-aggregate-put : tie.Need-slice-aggregate-put
 slice-aggregate-put c = search needs

@@ -1,8 +1,8 @@
--- `own::put_images` meets its contract: row by row.
-use Rattle.own.proofs.Laws.{images-join}
+-- `images::put_images` meets its contract: row by row.
+use Rattle.images.proofs.Laws.{images-join}
 use borrow.Author.Needs.{needs}
-use Rattle.own.proofs.put_images.Statement.{statement}
-use Rattle.own.proofs.put_images.Tie as tie
+use Rattle.images.proofs.put_images.Statement.{statement}
+use Rattle.images.proofs.put_images.Tie as tie
 
 put-running-requires : tie.Need-put-running-requires
 put-running-requires c κs = search needs

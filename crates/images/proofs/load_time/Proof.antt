@@ -1,8 +1,8 @@
--- `own::load_time` meets its contract: whether one is pending, then its hash.
-use Rattle.own.proofs.Laws.{time-none, time-other, time-same}
+-- `images::load_time` meets its contract: whether one is pending, then its hash.
+use Rattle.images.proofs.Laws.{time-none, time-other, time-same}
 use borrow.Author.Needs.{needs}
-use Rattle.own.proofs.load_time.Statement.{statement}
-use Rattle.own.proofs.load_time.Tie as tie
+use Rattle.images.proofs.load_time.Statement.{statement}
+use Rattle.images.proofs.load_time.Tie as tie
 
 returns : tie.Need-returns
 returns c = time-none _ _ (c .if1 .taken)
