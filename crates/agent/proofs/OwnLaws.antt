@@ -11,9 +11,9 @@ use lib.Seq.{sets}
 use Rattle.buffer.specs.Pick.{pick}
 use Rattle.buffer.specs.Put.{Put}
 use Rattle.outgoing.specs.Sent.{registrationSent, reportSent}
-use Rattle.outgoing.specs.declared.sent.Report.{Report}
-use Rattle.outgoing.specs.declared.sent.Report.the-variants.{Primary, Heartbeat}
-use Rattle.outgoing.proofs.SentLaws.{registration-short, report-short}
+use Rattle.outgoing.specs.declared.Report.{Report}
+use Rattle.outgoing.specs.declared.Report.the-variants.{Primary, Heartbeat}
+use Rattle.outgoing.proofs.Laws.{registration-short, report-short}
 use Rattle.registration.specs.Backoff.{backoffOf, restOf}
 use Rattle.registration.specs.Round.{idTaken, roundTaken}
 use Rattle.schedule.specs.declared.Interval.{Interval}

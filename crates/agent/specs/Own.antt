@@ -6,8 +6,8 @@ use mathlib.Core.Bool.{Bool, false, not, _&&_}
 use lib.Dec.{eqb, ltb}
 use Rattle.buffer.specs.Pick.{pick}
 use Rattle.outgoing.specs.Sent.{registrationSent, reportSent}
-use Rattle.outgoing.specs.declared.sent.Report.{Report}
-use Rattle.outgoing.specs.declared.sent.Report.the-variants.{Primary, Heartbeat}
+use Rattle.outgoing.specs.declared.Report.{Report}
+use Rattle.outgoing.specs.declared.Report.the-variants.{Primary, Heartbeat}
 use Rattle.registration.specs.Backoff.{backoffOf, restOf}
 use Rattle.registration.specs.Round.{idTaken, roundTaken}
 use Rattle.schedule.specs.declared.Interval.{Interval}
