@@ -70,7 +70,7 @@ fn copy_if(wanted: bool, bytes: &[u8], out: &mut [u8], at: usize) -> usize
     buffer::put(out, at, bytes)
 }
 
-// Appends the chosen records, in their order.
+// Appends the chosen records, in their order. Nothing is appended first, since that brings any position to its normal form.
 pub fn copy_records(s: &[u8], choice: Choice, out: &mut [u8], at: usize) -> usize
     ensures { λ r. ⌜ Appended (now (out .entry)) at (copies (now (s .entry)) choice) (now (out .exit)) r ⌝ }
 {
@@ -88,13 +88,7 @@ pub fn copy_records(s: &[u8], choice: Choice, out: &mut [u8], at: usize) -> usiz
 }
 
 // Appends what there is of an id.
-pub fn copy_shown<'a>(
-    store: &'a [u8],
-    own: &'a [u8],
-    id: u32,
-    out: &mut [u8],
-    at: usize,
-) -> usize
+pub fn copy_shown<'a>(store: &'a [u8], own: &'a [u8], id: u32, out: &mut [u8], at: usize) -> usize
     ensures { λ r. ⌜ Appended (now (out .entry)) at (shownOf (now (store .entry)) (now (own .entry)) id) (now (out .exit)) r ⌝ }
 {
     copy_records(
@@ -106,13 +100,7 @@ pub fn copy_shown<'a>(
 }
 
 // Appends what there is of each id, in this order, repeats included.
-pub fn copy_ids<'a>(
-    store: &'a [u8],
-    own: &'a [u8],
-    ids: Ids,
-    out: &mut [u8],
-    at: usize,
-) -> usize
+pub fn copy_ids<'a>(store: &'a [u8], own: &'a [u8], ids: Ids, out: &mut [u8], at: usize) -> usize
     ensures { λ r. ⌜ Appended (now (out .entry)) at (shownAll (now (store .entry)) (now (own .entry)) (held ids)) (now (out .exit)) r ⌝ }
 {
     let list = ids.list;
