@@ -8,7 +8,7 @@ use borrow.Author.Tests.{ltb-true}
 use lib.Dec.{eqb, ltb}
 use Rattle.buffer.specs.Pick.{pick}
 use Rattle.outgoing.specs.Sent.{registrationSent, reportSent}
-use Rattle.outgoing.specs.declared.sent.Report.{Report}
+use Rattle.outgoing.specs.declared.Report.{Report}
 use Rattle.refusal.specs.Refusal.{ownRefusal}
 use Rattle.registration.specs.Backoff.{doubled}
 use Rattle.registration.specs.Round.{idTaken, roundTaken}

@@ -5,7 +5,7 @@ use mathlib.Core.List.{List}
 use mathlib.Core.Bool.{true, false}
 use lib.ListN.{length}
 use Rattle.csmp.specs.declared.Image.{Image}
-use Rattle.outgoing.specs.declared.sent.Report.{Report}
+use Rattle.outgoing.specs.declared.Report.{Report}
 use Rattle.schedule.specs.declared.Point.{Point}
 use Rattle.state.specs.Setup.{setupOf}
 use Rattle.state.specs.declared.Assigned.{Assigned}

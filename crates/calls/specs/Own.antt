@@ -5,8 +5,8 @@ use mathlib.Core.Bool.{Bool, false, not, _&&_}
 use lib.Dec.{eqb}
 use Rattle.buffer.specs.Pick.{pick}
 use Rattle.outgoing.specs.Sent.{registrationSent, reportSent}
-use Rattle.outgoing.specs.declared.sent.Report.{Report}
-use Rattle.outgoing.specs.declared.sent.Report.the-variants.{Primary, Heartbeat}
+use Rattle.outgoing.specs.declared.Report.{Report}
+use Rattle.outgoing.specs.declared.Report.the-variants.{Primary, Heartbeat}
 use Rattle.refusal.specs.Refusal.{ownRefusal}
 use Rattle.registration.specs.Backoff.{backoffOf, restOf}
 use Rattle.registration.specs.Round.{idTaken, roundTaken}

@@ -1,5 +1,1 @@
-pub mod OwnLaws
-pub mod CopyLaws
-pub mod IndexLaws
-pub mod GetLaws
-pub mod SentLaws
+pub mod Laws

@@ -11,11 +11,11 @@ use Rattle.decimal.specs.declared.Ids.{Ids}
 use Rattle.schedule.specs.declared.Point.{Point}
 use Rattle.state.specs.declared.Assigned.{Assigned}
 use Rattle.state.specs.declared.State.{State}
-use Rattle.outgoing.specs.Own.{reportShown, groupsShown, ownRecords}
-use Rattle.outgoing.specs.Shown.{copies, shownAll}
-use Rattle.outgoing.specs.declared.copy.Choice.the-variants.{Only, Except}
-use Rattle.outgoing.specs.declared.sent.Report.{Report}
-use Rattle.outgoing.specs.declared.sent.Report.the-variants.{Primary, Heartbeat}
+use Rattle.own.specs.Own.{reportShown, groupsShown, ownRecords}
+use Rattle.copy.specs.Shown.{copies, shownAll}
+use Rattle.copy.specs.declared.Choice.the-variants.{Only, Except}
+use Rattle.outgoing.specs.declared.Report.{Report}
+use Rattle.outgoing.specs.declared.Report.the-variants.{Primary, Heartbeat}
 
 -- own datagram would pass 1,280: nothing is sent
 unfoldable pub sendable : List ℕ → List ℕ

@@ -13,9 +13,9 @@ use Rattle.buffer.specs.Put.{Put}
 use Rattle.buffer.proofs.Puts.{appended-put, appended-all}
 use Rattle.calls.specs.Own.{Sending, unsent, withRegistration, sending, sendingIf, roundOf, waited, backoffIn, restIn, intervalOf, isPositive, reports, reportOf}
 use Rattle.outgoing.specs.Sent.{registrationSent, reportSent}
-use Rattle.outgoing.specs.declared.sent.Report.{Report}
-use Rattle.outgoing.specs.declared.sent.Report.the-variants.{Primary, Heartbeat}
-use Rattle.outgoing.proofs.SentLaws.{registration-short, report-short}
+use Rattle.outgoing.specs.declared.Report.{Report}
+use Rattle.outgoing.specs.declared.Report.the-variants.{Primary, Heartbeat}
+use Rattle.outgoing.proofs.Laws.{registration-short, report-short}
 use Rattle.refusal.specs.Refusal.{ownRefusal}
 use Rattle.refusal.proofs.Laws.{own-room}
 use Rattle.registration.specs.Backoff.{backoffOf, restOf}
