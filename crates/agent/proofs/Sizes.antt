@@ -18,8 +18,9 @@ use Rattle.coap.specs.declared.Frame.{Frame}
 use Rattle.decode.specs.Read.{atMost, redirectOf, transferOf, loadOf, hashOf}
 use Rattle.csmp.specs.declared.Image.{Image}
 use Rattle.decode.specs.declared.Transfer.{Transfer}
-use Rattle.firmware.specs.Load.{withPending, isOpen, isPending, openFault, sourceFault, pendingFault, loads, loadsAt, loadAnswered, cancels, cancelAnswered, backs, backupAnswered, booted}
-use Rattle.firmware.specs.Open.{sizedTexts, isGiven, numberOr0, isWhole, isOurs, faultOf, openedBy, replaced, opens, openIf, transferAnswered}
+use Rattle.firmware.specs.Answer.{isOpen}
+use Rattle.loading.specs.Load.{withPending, isPending, openFault, sourceFault, pendingFault, loads, loadsAt, loadAnswered, cancels, cancelAnswered, backs, backupAnswered, booted}
+use Rattle.opening.specs.Open.{sizedTexts, isGiven, numberOr0, isWhole, isOurs, faultOf, openedBy, replaced, opens, openIf, transferAnswered}
 use Rattle.firmware.specs.Place.{isHash, hashAt, nameAt, versionAt}
 use Rattle.firmware.specs.declared.Answered.{Answered}
 use Rattle.post.specs.Judge.{lookedAt, judged}

@@ -15,8 +15,9 @@ use Rattle.encode.specs.Write.{momentNumber}
 use Rattle.csmp.specs.declared.Image.{Image}
 use Rattle.decode.specs.declared.Transfer.{Transfer}
 use Rattle.encode.proofs.WriteLaws.{timeField, word-most, response-record-most}
-use Rattle.firmware.specs.Load.{isOpen, isBackup, isPending, openFault, sourceFault, pendingFault, loads, loadsAt, loadAnswered, cancels, cancelAnswered, backs, backupAnswered}
-use Rattle.firmware.specs.Open.{isWhole, isOurs, faultOf, replaced, opens, openIf, transferAnswered}
+use Rattle.firmware.specs.Answer.{isOpen}
+use Rattle.loading.specs.Load.{isBackup, isPending, openFault, sourceFault, pendingFault, loads, loadsAt, loadAnswered, cancels, cancelAnswered, backs, backupAnswered}
+use Rattle.opening.specs.Open.{isWhole, isOurs, faultOf, replaced, opens, openIf, transferAnswered}
 use Rattle.firmware.specs.Place.{isHash, bytesAt, hashAt, echoed}
 use Rattle.firmware.specs.declared.Answered.{Answered}
 use Rattle.protobuf.specs.Find.{numberOf, numberIn, lastIn, bytesIn}

@@ -13,8 +13,8 @@ use Rattle.encode.specs.Write.{responseRecord}
 use Rattle.csmp.specs.declared.Hash.{Hash}
 use Rattle.csmp.specs.declared.Image.{Image}
 use Rattle.decode.specs.declared.Load.{Load}
-use Rattle.firmware.specs.Load.{loadAnswered, cancelAnswered, backupAnswered}
-use Rattle.firmware.specs.Open.{transferAnswered}
+use Rattle.loading.specs.Load.{loadAnswered, cancelAnswered, backupAnswered}
+use Rattle.opening.specs.Open.{transferAnswered}
 use Rattle.firmware.specs.Place.{echoed}
 use Rattle.firmware.specs.declared.Answered.{Answered}
 use Rattle.registration.specs.Redirect.{redirected}

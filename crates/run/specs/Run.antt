@@ -10,8 +10,8 @@ use Rattle.buffer.specs.Put.{Put}
 use Rattle.decode.specs.Read.{loadOf}
 use Rattle.encode.specs.Write.{responseRecord}
 use Rattle.csmp.specs.declared.Hash.{Hash}
-use Rattle.firmware.specs.Load.{loadAnswered, cancelAnswered, backupAnswered}
-use Rattle.firmware.specs.Open.{transferAnswered}
+use Rattle.loading.specs.Load.{loadAnswered, cancelAnswered, backupAnswered}
+use Rattle.opening.specs.Open.{transferAnswered}
 use Rattle.firmware.specs.Place.{echoed}
 use Rattle.firmware.specs.declared.Answered.{Answered}
 use Rattle.registration.specs.Redirect.{redirected}

@@ -7,8 +7,8 @@ use state::Device;
 ghost use Prim.Native.Nat.{_≤_};
 ghost use mathlib.Core.Path.{_≡_};
 ghost use lib.ListN.{length};
-ghost use Rattle.firmware.specs.Load.{loadAnswered, cancelAnswered, backupAnswered};
-ghost use Rattle.firmware.specs.Open.{transferAnswered};
+ghost use Rattle.loading.specs.Load.{loadAnswered, cancelAnswered, backupAnswered};
+ghost use Rattle.opening.specs.Open.{transferAnswered};
 ghost use Rattle.firmware.specs.Place.{echoed};
 ghost use Rattle.registration.specs.Redirect.{redirected};
 ghost use Rattle.schedule.specs.declared.Moment.the-variants.{Absent as Never};
@@ -32,7 +32,7 @@ fn run_transfer(device: Device, ran: Ran, v: &[u8], out: &mut [u8]) -> Ran
     ensures { λ r. ⌜ Responded ran (transferAnswered device (ran .images) (now (v .entry))) 71 (echoed (now (v .entry)) 2) Never (now (out .entry)) r (now (out .exit)) ⌝ }
 {
     let images = ran.images;
-    let answered = firmware::answer_transfer(device, images, v);
+    let answered = opening::answer_transfer(device, images, v);
     respond(ran, answered, out, 71, firmware::echo(v, 2), Moment::Absent)
 }
 
@@ -51,7 +51,7 @@ fn run_load(ran: Ran, v: &[u8], out: &mut [u8]) -> Ran
     ensures { λ r. ⌜ Responded ran (loadAnswered (ran .images) (now (v .entry))) 72 (echoed (now (v .entry)) 1) (loadTime (loadAnswered (ran .images) (now (v .entry)) .answer) (now (v .entry))) (now (out .entry)) r (now (out .exit)) ⌝ }
 {
     let images = ran.images;
-    let answered = firmware::answer_load(images, v);
+    let answered = loading::answer_load(images, v);
     let time = load_time(answered.answer, v);
     respond(ran, answered, out, 72, firmware::echo(v, 1), time)
 }
@@ -60,7 +60,7 @@ fn run_cancel(ran: Ran, v: &[u8], out: &mut [u8]) -> Ran
     ensures { λ r. ⌜ Responded ran (cancelAnswered (ran .images) (now (v .entry))) 73 (echoed (now (v .entry)) 1) Never (now (out .entry)) r (now (out .exit)) ⌝ }
 {
     let images = ran.images;
-    let answered = firmware::answer_cancel(images, v);
+    let answered = loading::answer_cancel(images, v);
     respond(ran, answered, out, 73, firmware::echo(v, 1), Moment::Absent)
 }
 
@@ -68,7 +68,7 @@ fn run_backup(ran: Ran, v: &[u8], out: &mut [u8]) -> Ran
     ensures { λ r. ⌜ Responded ran (backupAnswered (ran .images) (now (v .entry))) 74 (echoed (now (v .entry)) 1) Never (now (out .entry)) r (now (out .exit)) ⌝ }
 {
     let images = ran.images;
-    let answered = firmware::answer_backup(images, v);
+    let answered = loading::answer_backup(images, v);
     respond(ran, answered, out, 74, firmware::echo(v, 1), Moment::Absent)
 }
 
