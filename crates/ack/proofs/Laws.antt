@@ -11,7 +11,7 @@ use Rattle.state.specs.declared.Registration.{Registration}
 use Rattle.state.specs.declared.State.{State}
 use Rattle.learn.specs.Learn.{learntFrom}
 use Rattle.ack.specs.Take.{isAwaited, isTakable, withGroups, regrouped, acceptedBy, takenBy, acknowledged}
-use Rattle.learn.specs.declared.note.Learnt.{Learnt}
+use Rattle.note.specs.declared.Learnt.{Learnt}
 
 -- whether it is taken
 module _ (r : Registration) (id : ℕ) where

@@ -1,5 +1,5 @@
 // The acknowledgement of a registration: when it is taken, and what it then assigns, or where it redirects to.
-use learn::Learnt;
+use note::Learnt;
 use schedule::Point;
 use state::Assigned;
 use state::Registration;

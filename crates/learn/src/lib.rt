@@ -1,7 +1,5 @@
 // What an acknowledgement of a registration says: one walk over its records.
-mod note;
-
-pub use note::Learnt;
+use note::Learnt;
 use schedule::Point;
 use state::Assigned;
 use state::Device;
