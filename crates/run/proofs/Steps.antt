@@ -1,13 +1,9 @@
 -- Laws of one record's run: what each arm of the code says of the definitions.
-use Prim.Native.Nat.{ℕ, _≤_}
+use Prim.Native.Nat.{ℕ}
 use mathlib.Core.Path.{_≡_, refl}
 use mathlib.Core.List.{List, []}
 use mathlib.Core.Bool.{true, false}
-use native.Mathlib.Omega.{arith}
 use borrow.Author.Tests.{eq-eqb, ne-eqb}
-use lib.ListN.{length}
-use Rattle.buffer.specs.Put.{Put, placed, after}
-use Rattle.buffer.proofs.Stretches.{fits-true}
 use Rattle.decode.specs.Read.{loadOf}
 use Rattle.encode.specs.Write.{responseRecord}
 use Rattle.csmp.specs.declared.Hash.{Hash}
@@ -22,7 +18,7 @@ use Rattle.schedule.specs.declared.Moment.{Moment}
 use Rattle.schedule.specs.declared.Moment.the-variants.{Absent as Never}
 use Rattle.state.specs.declared.Device.{Device}
 use Rattle.transfer.specs.Block.{Left, takeBlock}
-use Rattle.run.specs.Run.{World, withImages, withFlash, worldOf, blockTaken, act, loadTime, response, Responded, Stepped}
+use Rattle.run.specs.Run.{World, withImages, withFlash, worldOf, blockTaken, act, loadTime, response, Responded, Passed, Stepped}
 use Rattle.run.specs.declared.Ran.{Ran}
 
 -- the time of a load that was accepted
@@ -49,11 +45,6 @@ pub block-open : (w : World) (v : List ℕ) {i : Image} {bs : List ℕ} → w .i
 unfolding blockTaken
 block-open w v h l = rw (h, l .same-image, l .same-bytes)
 
--- nothing appended
-put-none : (out : List ℕ) (at : ℕ) → at ≤ length out → Put out at [] out at
-unfolding placed after
-put-none out at h = let f = fits-true (length out) at 0 (omega arith) in record { bytes = rw f; position = rw f (omega arith) }
-
 -- an arm that answers, and one that does not
 module _ (d : Device) (k : ℕ) (v : List ℕ) (out : List ℕ) (r next : Ran) (flash : List ℕ) where
   step-answered : {left : List ℕ} (a : Answered) (kind : ℕ) (h : Hash) (time : Moment)
@@ -62,19 +53,19 @@ module _ (d : Device) (k : ℕ) (v : List ℕ) (out : List ℕ) (r next : Ran) (
       → Responded r a kind h time out next left → Stepped d (worldOf r flash) k v out (r .end) next flash left
   step-answered a kind h time e f x = record { world = rw (e, x .images, x .registration); appended = rw f (x .appended) }
 
-  step-silent : (now : List ℕ) → worldOf next now ≡ act d (worldOf r flash) k v → response d (worldOf r flash) k v ≡ []
-      → next .end ≡ r .end → r .end ≤ length out → Stepped d (worldOf r flash) k v out (r .end) next now out
-  step-silent now e f g h = record { world = e; appended = rw (f, g) (put-none out (r .end) h) }
+  step-silent : (now : List ℕ) {left : List ℕ} (m : Ran) → worldOf m now ≡ act d (worldOf r flash) k v → response d (worldOf r flash) k v ≡ []
+      → m .end ≡ r .end → Passed m out next left → Stepped d (worldOf r flash) k v out (r .end) next now left
+  step-silent now m e f g x = record { world = rw (x .images, x .registration) e; appended = rw (f, ← g) (x .appended) }
 
-  pub step-6 : k ≡ 6 → next ≡ record { images = r .images; registration = redirected d (r .registration) v; «end» = r .end }
-      → r .end ≤ length out → Stepped d (worldOf r flash) k v out (r .end) next flash out
+  pub step-6 : {left : List ℕ} (m : Ran) → k ≡ 6 → m ≡ record { images = r .images; registration = redirected d (r .registration) v; «end» = r .end }
+      → Passed m out next left → Stepped d (worldOf r flash) k v out (r .end) next flash left
   unfolding act response
-  step-6 e f h = step-silent flash (rw (e, f)) (rw e) (rw f) h
+  step-6 m e f x = step-silent flash m (rw (e, f)) (rw e) (rw f) x
 
-  pub step-67 : (now : List ℕ) → k ≡ 67 → (worldOf next now ≡ blockTaken (worldOf r flash) v) × (next .end ≡ r .end)
-      → r .end ≤ length out → Stepped d (worldOf r flash) k v out (r .end) next now out
+  pub step-67 : (now : List ℕ) {left : List ℕ} (m : Ran) → k ≡ 67 → (worldOf m now ≡ blockTaken (worldOf r flash) v) × (m .end ≡ r .end)
+      → Passed m out next left → Stepped d (worldOf r flash) k v out (r .end) next now left
   unfolding act response
-  step-67 now e f h = step-silent now (rw e (f .0)) (rw e) (f .1) h
+  step-67 now m e f x = step-silent now m (rw e (f .0)) (rw e) (f .1) x
 
   pub step-65 : {left : List ℕ} → k ≡ 65 → Responded r (transferAnswered d (r .images) v) 71 (echoed v 2) Never out next left
       → Stepped d (worldOf r flash) k v out (r .end) next flash left
@@ -96,12 +87,11 @@ module _ (d : Device) (k : ℕ) (v : List ℕ) (out : List ℕ) (r next : Ran) (
   unfolding act response
   step-70 e x = step-answered _ _ _ _ (rw e) (rw e) x
 
--- a record that is none of these
-pub step-other : (d : Device) (k : ℕ) (v : List ℕ) (out : List ℕ) (r : Ran) (flash : List ℕ)
-    → (k ≡ 6 → ⊥) → (k ≡ 65 → ⊥) → (k ≡ 67 → ⊥) → (k ≡ 68 → ⊥) → (k ≡ 69 → ⊥) → (k ≡ 70 → ⊥)
-    → r .end ≤ length out → Stepped d (worldOf r flash) k v out (r .end) r flash out
-unfolding act response
-step-other d k v out r flash a b e f g i h =
-    step-silent d k v out r r flash flash
-    (rw (ne-eqb k 6 a, ne-eqb k 65 b, ne-eqb k 67 e, ne-eqb k 68 f, ne-eqb k 69 g, ne-eqb k 70 i))
-    (rw (ne-eqb k 65 b, ne-eqb k 68 f, ne-eqb k 69 g, ne-eqb k 70 i)) refl h
+  -- a record that is none of these
+  pub step-other : {left : List ℕ} → (k ≡ 6 → ⊥) → (k ≡ 65 → ⊥) → (k ≡ 67 → ⊥) → (k ≡ 68 → ⊥) → (k ≡ 69 → ⊥) → (k ≡ 70 → ⊥)
+      → Passed r out next left → Stepped d (worldOf r flash) k v out (r .end) next flash left
+  unfolding act response
+  step-other a b e f g i x =
+      step-silent flash r
+      (rw (ne-eqb k 6 a, ne-eqb k 65 b, ne-eqb k 67 e, ne-eqb k 68 f, ne-eqb k 69 g, ne-eqb k 70 i))
+      (rw (ne-eqb k 65 b, ne-eqb k 68 f, ne-eqb k 69 g, ne-eqb k 70 i)) refl x

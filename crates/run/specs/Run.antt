@@ -97,6 +97,12 @@ pub record Responded (r : Ran) (a : Answered) (kind : ℕ) (h : Hash) (time : Mo
   pub registration : next .registration ≡ r .registration
   pub appended : Put out (r .end) (responseRecord kind h (a .answer) time) left (next .end)
 
+-- what no answer leaves: all as it was, and nothing appended
+pub record Passed (r : Ran) (out : List ℕ) (next : Ran) (left : List ℕ) : Type 0 where
+  pub images : next .images ≡ r .images
+  pub registration : next .registration ≡ r .registration
+  pub appended : Put out (r .end) [] left (next .end)
+
 -- what a record leaves: what it does, and its response appended
 pub record Stepped (d : Device) (w : World) (k : ℕ) (v : List ℕ) (out : List ℕ) (at : ℕ) (next : Ran) (flash left : List ℕ) : Type 0 where
   pub world : worldOf next flash ≡ act d w k v

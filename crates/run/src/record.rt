@@ -4,15 +4,13 @@ use csmp::Hash;
 use firmware::Answered;
 use schedule::Moment;
 use state::Device;
-ghost use Prim.Native.Nat.{_≤_};
 ghost use mathlib.Core.Path.{_≡_};
-ghost use lib.ListN.{length};
 ghost use Rattle.loading.specs.Load.{loadAnswered, cancelAnswered, backupAnswered};
 ghost use Rattle.opening.specs.Open.{transferAnswered};
 ghost use Rattle.firmware.specs.Place.{echoed};
 ghost use Rattle.registration.specs.Redirect.{redirected};
 ghost use Rattle.schedule.specs.declared.Moment.the-variants.{Absent as Never};
-ghost use Rattle.run.specs.Run.{worldOf, blockTaken, loadTime, Responded, Stepped};
+ghost use Rattle.run.specs.Run.{worldOf, blockTaken, loadTime, Responded, Passed, Stepped};
 
 // The images that a request leaves, and its response appended.
 fn respond(ran: Ran, answered: Answered, out: &mut [u8], kind: u64, hash: Hash, time: Moment) -> Ran
@@ -98,8 +96,22 @@ fn run_redirect(device: Device, ran: Ran, v: &[u8]) -> Ran
     next
 }
 
+// No response: nothing is appended, and a position past the end stays there.
+fn pass(ran: Ran, out: &mut [u8]) -> Ran
+    ensures { λ r. ⌜ Passed ran (now (out .entry)) r (now (out .exit)) ⌝ }
+{
+    let images = ran.images;
+    let registration = ran.registration;
+    let end = buffer::put(out, ran.end, b"");
+    Ran {
+        images,
+        registration,
+        end,
+    }
+}
+
 // One record: others than these do nothing here.
-pub(crate) fn run_record(
+pub fn run_record(
     device: Device,
     ran: Ran,
     flash: &mut [u8],
@@ -107,16 +119,15 @@ pub(crate) fn run_record(
     v: &[u8],
     out: &mut [u8],
 ) -> Ran
-    requires { ⌜ ran .«end» ≤ length (now out) ⌝ }
     ensures { λ r. ⌜ Stepped device (worldOf ran (now (flash .entry))) kind (now (v .entry)) (now (out .entry)) (ran .«end») r (now (flash .exit)) (now (out .exit)) ⌝ }
 {
     match kind {
-        6 => run_redirect(device, ran, v),
+        6 => pass(run_redirect(device, ran, v), out),
         65 => run_transfer(device, ran, v, out),
-        67 => run_block(ran, flash, v),
+        67 => pass(run_block(ran, flash, v), out),
         68 => run_load(ran, v, out),
         69 => run_cancel(ran, v, out),
         70 => run_backup(ran, v, out),
-        _ => ran,
+        _ => pass(ran, out),
     }
 }
