@@ -36,7 +36,8 @@ use Rattle.request.specs.Request.{requestOf}
 use Rattle.request.specs.declared.Asks.{Asks}
 use Rattle.request.specs.declared.Asks.the-variants.{Error, Post as Posting, Index, Record, Records}
 use Rattle.run.specs.Post.{postedAs, judgedAt, posted}
-use Rattle.run.specs.Run.{World, withImages, blockTaken, act, ran}
+use Rattle.run.specs.Run.{ran}
+use Rattle.step.specs.Step.{World, withImages, blockTaken, act}
 use Rattle.run.proofs.Laws.{run-readable}
 use Rattle.schedule.specs.declared.Moment.{Moment}
 use Rattle.schedule.specs.declared.Moment.the-variants.{At as On, Absent as Never}

@@ -33,7 +33,7 @@ use Rattle.state.specs.declared.Device.{Device}
 use Rattle.state.specs.declared.Images.{Images}
 use Rattle.transfer.specs.Bitmap.{complete}
 use Rattle.transfer.specs.Blocks.{blocks}
-use Rattle.run.specs.Run.{World, loadTime, response}
+use Rattle.step.specs.Step.{World, loadTime, response}
 
 -- a time that was read
 time-never : length (timeField Never) ≤ 6

@@ -18,8 +18,8 @@ use Rattle.schedule.specs.declared.Moment.{Moment}
 use Rattle.schedule.specs.declared.Moment.the-variants.{Absent as Never}
 use Rattle.state.specs.declared.Device.{Device}
 use Rattle.transfer.specs.Block.{Left, takeBlock}
-use Rattle.run.specs.Run.{World, withImages, withFlash, worldOf, blockTaken, act, loadTime, response, Responded, Passed, Stepped}
-use Rattle.run.specs.declared.Ran.{Ran}
+use Rattle.step.specs.Step.{World, withImages, withFlash, worldOf, blockTaken, act, loadTime, response, Responded, Passed, Stepped}
+use Rattle.step.specs.declared.Ran.{Ran}
 
 -- the time of a load that was accepted
 pub time-none : (answer : ℕ) (v : List ℕ) → (answer ≡ 0 → ⊥) → Never ≡ loadTime answer v

@@ -1,9 +1,9 @@
--- `run::record::run_transfer` meets its contract: the answer is what the response holds.
+-- `step::run_transfer` meets its contract: the answer is what the response holds.
 use mathlib.Core.Path.{refl}
-use Rattle.run.proofs.Steps.{responded}
+use Rattle.step.proofs.Steps.{responded}
 use borrow.Author.Needs.{needs}
-use Rattle.run.proofs.record.run_transfer.Statement.{statement}
-use Rattle.run.proofs.record.run_transfer.Tie as tie
+use Rattle.step.proofs.run_transfer.Statement.{statement}
+use Rattle.step.proofs.run_transfer.Tie as tie
 
 answer-transfer-requires : tie.Need-answer-transfer-requires
 answer-transfer-requires c κs = search needs

@@ -1,8 +1,8 @@
--- `run::record::run_load` meets its contract: the answer and its time are what the response holds.
-use Rattle.run.proofs.Steps.{responded}
+-- `step::run_load` meets its contract: the answer and its time are what the response holds.
+use Rattle.step.proofs.Steps.{responded}
 use borrow.Author.Needs.{needs}
-use Rattle.run.proofs.record.run_load.Statement.{statement}
-use Rattle.run.proofs.record.run_load.Tie as tie
+use Rattle.step.proofs.run_load.Statement.{statement}
+use Rattle.step.proofs.run_load.Tie as tie
 
 answer-load-requires : tie.Need-answer-load-requires
 answer-load-requires c κs = search needs

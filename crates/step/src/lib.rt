@@ -1,16 +1,24 @@
 // Step j: what one record does, and the response that it gets.
-use crate::Ran;
 use csmp::Hash;
 use firmware::Answered;
 use schedule::Moment;
 use state::Device;
+use state::Images;
+use state::Registration;
 ghost use mathlib.Core.Path.{_≡_};
 ghost use Rattle.loading.specs.Load.{loadAnswered, cancelAnswered, backupAnswered};
 ghost use Rattle.opening.specs.Open.{transferAnswered};
 ghost use Rattle.firmware.specs.Place.{echoed};
 ghost use Rattle.registration.specs.Redirect.{redirected};
 ghost use Rattle.schedule.specs.declared.Moment.the-variants.{Absent as Never};
-ghost use Rattle.run.specs.Run.{worldOf, blockTaken, loadTime, Responded, Passed, Stepped};
+ghost use Rattle.step.specs.Step.{worldOf, blockTaken, loadTime, Responded, Passed, Stepped};
+
+// What running records changes beside the image buffer, and where their responses end.
+pub struct Ran {
+    pub images: Images,
+    pub registration: Registration,
+    pub end: usize,
+}
 
 // The images that a request leaves, and its response appended.
 fn respond(ran: Ran, answered: Answered, out: &mut [u8], kind: u64, hash: Hash, time: Moment) -> Ran

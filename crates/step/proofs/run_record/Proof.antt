@@ -1,8 +1,8 @@
--- `run::record::run_record` meets its contract: the type tells what a record does.
-use Rattle.run.proofs.Steps.{step-6, step-65, step-67, step-68, step-69, step-70, step-other}
+-- `step::run_record` meets its contract: the type tells what a record does.
+use Rattle.step.proofs.Steps.{step-6, step-65, step-67, step-68, step-69, step-70, step-other}
 use borrow.Author.Needs.{needs}
-use Rattle.run.proofs.record.run_record.Statement.{statement}
-use Rattle.run.proofs.record.run_record.Tie as tie
+use Rattle.step.proofs.run_record.Statement.{statement}
+use Rattle.step.proofs.run_record.Tie as tie
 
 run-redirect-requires : tie.Need-run-redirect-requires
 run-redirect-requires c κs = search needs

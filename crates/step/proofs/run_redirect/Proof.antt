@@ -1,7 +1,7 @@
--- `run::record::run_redirect` meets its contract: only the registration changes.
+-- `step::run_redirect` meets its contract: only the registration changes.
 use borrow.Author.Needs.{needs}
-use Rattle.run.proofs.record.run_redirect.Statement.{statement}
-use Rattle.run.proofs.record.run_redirect.Tie as tie
+use Rattle.step.proofs.run_redirect.Statement.{statement}
+use Rattle.step.proofs.run_redirect.Tie as tie
 
 redirect-requires : tie.Need-redirect-requires
 redirect-requires c κs = search needs

@@ -1,11 +1,11 @@
--- `run::record::run_block` meets its contract: only an open image takes a block.
+-- `step::run_block` meets its contract: only an open image takes a block.
 use mathlib.Core.Path.{refl}
 use borrow.Author.Tests.{not-true, not-false}
-use Rattle.run.specs.Run.{worldOf}
-use Rattle.run.proofs.Steps.{block-closed, block-open}
+use Rattle.step.specs.Step.{worldOf}
+use Rattle.step.proofs.Steps.{block-closed, block-open}
 use borrow.Author.Needs.{needs}
-use Rattle.run.proofs.record.run_block.Statement.{statement}
-use Rattle.run.proofs.record.run_block.Tie as tie
+use Rattle.step.proofs.run_block.Statement.{statement}
+use Rattle.step.proofs.run_block.Tie as tie
 
 returns : tie.Need-returns
 returns c = (block-closed _ _ (not-true _ (c .if1 .taken)), refl)

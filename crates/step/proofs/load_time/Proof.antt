@@ -1,8 +1,8 @@
--- `run::record::load_time` meets its contract: by the answer.
-use Rattle.run.proofs.Steps.{time-none, time-load}
+-- `step::load_time` meets its contract: by the answer.
+use Rattle.step.proofs.Steps.{time-none, time-load}
 use borrow.Author.Needs.{needs}
-use Rattle.run.proofs.record.load_time.Statement.{statement}
-use Rattle.run.proofs.record.load_time.Tie as tie
+use Rattle.step.proofs.load_time.Statement.{statement}
+use Rattle.step.proofs.load_time.Tie as tie
 
 returns : tie.Need-returns
 returns c = time-none _ _ (c .if1 .taken)
