@@ -1,2 +1,1 @@
-pub mod Learn
 pub mod Take

@@ -10,8 +10,8 @@ use Rattle.state.specs.declared.Assigned.{Assigned}
 use Rattle.state.specs.declared.Groups.{Groups}
 use Rattle.state.specs.declared.Registration.{Registration}
 use Rattle.state.specs.declared.State.{State}
-use Rattle.ack.specs.Learn.{learntFrom}
-use Rattle.ack.specs.declared.note.Learnt.{Learnt}
+use Rattle.learn.specs.Learn.{learntFrom}
+use Rattle.note.specs.declared.Learnt.{Learnt}
 
 -- whose id is the latest round's, not yet accepted
 unfoldable pub isAwaited : Registration → ℕ → Bool

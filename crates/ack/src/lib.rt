@@ -1,40 +1,11 @@
-// The acknowledgement of a registration: what it assigns, or where it redirects to.
-mod note;
-
+// The acknowledgement of a registration: when it is taken, and what it then assigns, or where it redirects to.
 use note::Learnt;
 use schedule::Point;
 use state::Assigned;
-use state::Device;
 use state::Registration;
 use state::State;
-use tlv::Taken;
 ghost use mathlib.Core.Path.{_≡_};
-ghost use Rattle.ack.specs.Learn.{learntFrom};
 ghost use Rattle.ack.specs.Take.{regrouped, isAwaited, isTakable, acceptedBy, takenBy, acknowledged};
-
-// What there is to learn from an acknowledgement's payload.
-fn learn(
-    device: Device,
-    registration: Registration,
-    assigned: Assigned,
-    payload: &[u8],
-    time: Point,
-) -> Learnt
-    ensures { λ r. ⌜ r ≡ learntFrom device registration assigned time (now (payload .entry)) ⌝ }
-{
-    let mut learnt = note::nothing(registration, assigned);
-    let mut at = 0;
-    while at < payload.len() {
-        let Taken::Record(r) = tlv::take_record(payload, at) else {
-            return note::mark(learnt, false);
-        };
-        let start = r.start;
-        let end = r.end;
-        learnt = note::note(device, learnt, r.kind, &payload[start..end], time);
-        at = end;
-    }
-    learnt
-}
 
 // Its groups, if it has any, replace all that were held.
 fn regroup(learnt: Learnt) -> Assigned
@@ -111,7 +82,7 @@ pub fn acknowledge(state: State, id: u16, payload: &[u8], time: Point, verdict: 
     if !is_awaited(registration, id) {
         return state;
     }
-    let learnt = learn(device, registration, assigned, payload, time);
+    let learnt = learn::learn(device, registration, assigned, payload, time);
     if !is_takable(learnt, verdict, device.signed_responses) {
         return state;
     }

@@ -8,9 +8,10 @@ use native.Mathlib.Omega.{arith}
 use borrow.Author.Tests.{leb-true, leb-false}
 use lib.Dec.{eqb, leb}
 use lib.ListN.{length, length-take}
-use Rattle.ack.specs.Learn.{nothingLearnt, marked, redirectNoted, sessionIdOf, inSession, withSession, sessionNoted, withReport, reportNoted, pushed, grouped, withGroup, groupNoted, validityNoted, signatureNoted, noted, learntOf, learntFrom}
+use Rattle.note.specs.Note.{nothingLearnt, marked, redirectNoted, sessionIdOf, inSession, withSession, sessionNoted, withReport, reportNoted, pushed, grouped, withGroup, groupNoted, validityNoted, signatureNoted, noted}
+use Rattle.learn.specs.Learn.{learntOf, learntFrom}
 use Rattle.ack.specs.Take.{isAwaited, isTakable, regrouped, acceptedBy, takenBy, acknowledged}
-use Rattle.ack.specs.declared.note.Learnt.{Learnt}
+use Rattle.note.specs.declared.Learnt.{Learnt}
 use Rattle.buffer.proofs.Tests.{pick-both, both}
 use Rattle.csmp.specs.Values.{atMost}
 use Rattle.nesting.specs.Readable.{plain}

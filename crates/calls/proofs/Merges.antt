@@ -25,7 +25,8 @@ use Rattle.request.specs.Request.{requestOf}
 use Rattle.request.specs.declared.Asks.{Asks}
 use Rattle.request.specs.declared.Asks.the-variants.{Error, Post, Index, Record, Records}
 use Rattle.run.specs.Post.{postedAs, judgedAt, posted}
-use Rattle.run.specs.Run.{World, withFlash, blockTaken, act, ran}
+use Rattle.run.specs.Run.{ran}
+use Rattle.step.specs.Step.{World, withFlash, blockTaken, act}
 use Rattle.state.specs.declared.Device.{Device}
 use Rattle.state.specs.declared.Registration.{Registration}
 use Rattle.tlv.specs.Record.{Tlv}

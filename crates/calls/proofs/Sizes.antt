@@ -19,9 +19,10 @@ use Rattle.csmp.specs.Values.{atMost}
 use Rattle.decode.specs.Read.{redirectOf}
 use Rattle.decode_image.specs.Read.{transferOf, loadOf, hashOf}
 use Rattle.csmp.specs.declared.Image.{Image}
-use Rattle.decode_image.specs.declared.Transfer.{Transfer}
-use Rattle.firmware.specs.Load.{withPending, isOpen, isPending, openFault, sourceFault, pendingFault, loads, loadsAt, loadAnswered, cancels, cancelAnswered, backs, backupAnswered, booted}
-use Rattle.firmware.specs.Open.{sizedTexts, isGiven, numberOr0, isWhole, isOurs, faultOf, openedBy, replaced, opens, openIf, transferAnswered}
+use Rattle.decode.specs.declared.Transfer.{Transfer}
+use Rattle.firmware.specs.Answer.{isOpen}
+use Rattle.loading.specs.Load.{withPending, isPending, openFault, sourceFault, pendingFault, loads, loadsAt, loadAnswered, cancels, cancelAnswered, backs, backupAnswered, booted}
+use Rattle.opening.specs.Open.{sizedTexts, isGiven, numberOr0, isWhole, isOurs, faultOf, openedBy, replaced, opens, openIf, transferAnswered}
 use Rattle.firmware.specs.Place.{isHash, hashAt, nameAt, versionAt}
 use Rattle.firmware.specs.declared.Answered.{Answered}
 use Rattle.post.specs.Judge.{lookedAt, judged}
@@ -37,7 +38,8 @@ use Rattle.request.specs.Request.{requestOf}
 use Rattle.request.specs.declared.Asks.{Asks}
 use Rattle.request.specs.declared.Asks.the-variants.{Error, Post as Posting, Index, Record, Records}
 use Rattle.run.specs.Post.{postedAs, judgedAt, posted}
-use Rattle.run.specs.Run.{World, withImages, blockTaken, act, ran}
+use Rattle.run.specs.Run.{ran}
+use Rattle.step.specs.Step.{World, withImages, blockTaken, act}
 use Rattle.run.proofs.Laws.{run-readable}
 use Rattle.schedule.specs.declared.Moment.{Moment}
 use Rattle.schedule.specs.declared.Moment.the-variants.{At as On, Absent as Never}

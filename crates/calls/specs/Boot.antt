@@ -1,6 +1,6 @@
 -- Boot, document 01, "Transfer".
 use mathlib.Core.Bool.{false}
-use Rattle.firmware.specs.Load.{booted}
+use Rattle.loading.specs.Load.{booted}
 use Rattle.registration.specs.Redirect.{restarted}
 use Rattle.state.specs.declared.State.{State}
 

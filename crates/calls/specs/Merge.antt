@@ -20,7 +20,7 @@ use Rattle.request.specs.Request.{requestOf}
 use Rattle.request.specs.declared.Asks.{Asks}
 use Rattle.request.specs.declared.Asks.the-variants.{Error, Post, Index, Record, Records}
 use Rattle.run.specs.Post.{judgedAt}
-use Rattle.run.specs.Run.{withFlash}
+use Rattle.step.specs.Step.{withFlash}
 use Rattle.state.specs.declared.Device.{Device}
 use Rattle.state.specs.declared.Groups.{Groups}
 use Rattle.state.specs.declared.State.{State}

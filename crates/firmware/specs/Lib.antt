@@ -1,3 +1,2 @@
 pub mod Place
-pub mod Load
-pub mod Open
+pub mod Answer

@@ -1,15 +1,16 @@
-// What records 65, 68, 69 and 70 do to the images, and the answers that they get.
-mod load;
-mod open;
+// What the answers about images share: the response codes, the hashes and texts of a request, the images with an answer.
 mod place;
 
-pub use load::answer_backup;
-pub use load::answer_cancel;
-pub use load::answer_load;
-pub use load::boot;
-pub use open::answer_transfer;
 pub use place::echo;
+pub use place::hash_at;
+pub use place::is_given;
+pub use place::is_hash;
+pub use place::name_at;
+pub use place::same_hash;
+pub use place::version_at;
 use state::Images;
+ghost use mathlib.Core.Path.{_≡_};
+ghost use Rattle.firmware.specs.Answer.{unchanged, isOpen};
 
 // The images after a record, and the answer.
 pub struct Answered {
@@ -35,3 +36,16 @@ pub const INVALID_BLOCK_SIZE: u32 = 7;
 pub const PENDING_REBOOT: u32 = 8;
 
 pub const IMAGE_RUNNING: u32 = 9;
+
+pub fn keep(images: Images, answer: u32) -> Answered
+    ensures { λ r. ⌜ r ≡ unchanged images answer ⌝ }
+{
+    Answered { images, answer }
+}
+
+pub fn is_open(images: Images, hash: [u8; 32]) -> bool
+    ensures { λ r. ⌜ r ≡ isOpen images hash ⌝ }
+{
+    let ours = images.image.hash;
+    place::is_given(images.open, ours, hash)
+}

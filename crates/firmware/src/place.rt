@@ -9,7 +9,7 @@ ghost use Rattle.firmware.specs.Place.{isHash, hashAt, echoed, nameAt, v
 ghost use Rattle.buffer.specs.Same.{sameBytes};
 
 // Whether bytes are there and are 32: a hash.
-pub(crate) fn is_hash(place: Bytes) -> bool
+pub fn is_hash(place: Bytes) -> bool
     ensures { λ r. ⌜ r ≡ isHash place ⌝ }
 {
     let Bytes::At(start, end) = place else {
@@ -22,7 +22,7 @@ pub(crate) fn is_hash(place: Bytes) -> bool
 }
 
 // The bytes, at the front of zeros.
-pub(crate) fn hash_at(v: &[u8], place: Bytes) -> [u8; 32]
+pub fn hash_at(v: &[u8], place: Bytes) -> [u8; 32]
     ensures { λ r. ⌜ r ≡ hashAt (now (v .entry)) place ⌝ }
 {
     let mut bytes = [0u8; 32];
@@ -43,7 +43,7 @@ pub fn echo(v: &[u8], number: u32) -> Hash
     Hash { given, bytes }
 }
 
-pub(crate) fn name_at(v: &[u8], place: Bytes) -> Name
+pub fn name_at(v: &[u8], place: Bytes) -> Name
     ensures { λ r. ⌜ r ≡ nameAt (now (v .entry)) place ⌝ }
 {
     let mut bytes = [0u8; 128];
@@ -63,7 +63,7 @@ pub(crate) fn name_at(v: &[u8], place: Bytes) -> Name
     }
 }
 
-pub(crate) fn version_at(v: &[u8], place: Bytes) -> Version
+pub fn version_at(v: &[u8], place: Bytes) -> Version
     ensures { λ r. ⌜ r ≡ versionAt (now (v .entry)) place ⌝ }
 {
     let mut bytes = [0u8; 32];
@@ -83,14 +83,14 @@ pub(crate) fn version_at(v: &[u8], place: Bytes) -> Version
     }
 }
 
-pub(crate) fn same_hash(a: [u8; 32], b: [u8; 32]) -> bool
+pub fn same_hash(a: [u8; 32], b: [u8; 32]) -> bool
     ensures { λ r. ⌜ r ≡ sameBytes a b ⌝ }
 {
     buffer::same(&a, &b)
 }
 
 // Whether a hash is one that is kept, if one is.
-pub(crate) fn is_given(kept: bool, ours: [u8; 32], hash: [u8; 32]) -> bool
+pub fn is_given(kept: bool, ours: [u8; 32], hash: [u8; 32]) -> bool
     ensures { λ r. ⌜ r ≡ (kept && sameBytes ours hash) ⌝ }
 {
     if !kept {

@@ -13,11 +13,11 @@ use Rattle.buffer.specs.Same.{sameBytes}
 use Rattle.decode_image.specs.Read.{loadOf, hashOf, transferOf}
 use Rattle.csmp.specs.Values.{momentOf, momentNumber}
 use Rattle.csmp.specs.declared.Image.{Image}
-use Rattle.decode_image.specs.declared.Transfer.{Transfer}
-use Rattle.encode_image.proofs.Sizes.{timeField, response-record-most}
-use Rattle.protobuf.proofs.SizeLaws.{word-most}
-use Rattle.firmware.specs.Load.{isOpen, isBackup, isPending, openFault, sourceFault, pendingFault, loads, loadsAt, loadAnswered, cancels, cancelAnswered, backs, backupAnswered}
-use Rattle.firmware.specs.Open.{isWhole, isOurs, faultOf, replaced, opens, openIf, transferAnswered}
+use Rattle.decode.specs.declared.Transfer.{Transfer}
+use Rattle.encode.proofs.WriteLaws.{timeField, word-most, response-record-most}
+use Rattle.firmware.specs.Answer.{isOpen}
+use Rattle.loading.specs.Load.{isBackup, isPending, openFault, sourceFault, pendingFault, loads, loadsAt, loadAnswered, cancels, cancelAnswered, backs, backupAnswered}
+use Rattle.opening.specs.Open.{isWhole, isOurs, faultOf, replaced, opens, openIf, transferAnswered}
 use Rattle.firmware.specs.Place.{isHash, bytesAt, hashAt, echoed}
 use Rattle.firmware.specs.declared.Answered.{Answered}
 use Rattle.find.specs.Find.{numberOf, numberIn, lastIn, bytesIn}
@@ -33,7 +33,7 @@ use Rattle.state.specs.declared.Device.{Device}
 use Rattle.state.specs.declared.Images.{Images}
 use Rattle.transfer.specs.Bitmap.{complete}
 use Rattle.transfer.specs.Blocks.{blocks}
-use Rattle.run.specs.Run.{World, loadTime, response}
+use Rattle.step.specs.Step.{World, loadTime, response}
 
 -- a time that was read
 time-never : length (timeField Never) ≤ 6

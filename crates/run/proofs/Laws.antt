@@ -20,9 +20,10 @@ use Rattle.state.specs.declared.Device.{Device}
 use Rattle.state.specs.declared.Groups.{Groups}
 use Rattle.tlv.specs.Record.{Tlv, records, readable}
 use Rattle.run.specs.Post.{postedAs, judgedAt, posted, PostedBy}
-use Rattle.run.specs.Run.{World, worldOf, RanBy}
+use Rattle.step.specs.Step.{World, worldOf}
+use Rattle.run.specs.Run.{RanBy}
 use Rattle.run.specs.declared.Posted.{Posted}
-use Rattle.run.specs.declared.Ran.{Ran}
+use Rattle.step.specs.declared.Ran.{Ran}
 
 -- what is seen of records
 module _ (g : Groups) (time : Point) where

@@ -1,4 +1,3 @@
-pub mod Steps
 pub mod Bounds
 pub mod Walk
 pub mod Laws

@@ -13,8 +13,9 @@ use Rattle.tlv.specs.Record.{Tlv, valued, records, recordAt, recordsFrom}
 use Rattle.tlv.specs.declared.Record.{Record}
 use Rattle.tlv.specs.declared.Taken.the-variants.{Record as Whole, Unreadable}
 use Rattle.tlv.proofs.Laws.{record-inside, records-end, records-more, records-unreadable}
-use Rattle.run.specs.Run.{World, worldOf, act, response, ran, responses, RanBy}
-use Rattle.run.specs.declared.Ran.{Ran}
+use Rattle.step.specs.Step.{World, worldOf, act, response}
+use Rattle.run.specs.Run.{ran, responses, RanBy}
+use Rattle.step.specs.declared.Ran.{Ran}
 use Rattle.run.proofs.Bounds.{response-most}
 
 -- the records from a position on

@@ -1,82 +1,13 @@
--- Step j, document 01, "Requests, in this order" and "Transfer": the records of a payload run in their order.
+-- Step j, document 01, "Requests, in this order": the records of a payload run in their order.
 use Prim.Native.Nat.{ℕ, _+_, _≤_}
 use mathlib.Core.Path.{_≡_}
 use mathlib.Core.List.{List, [], _∷_, _++_}
 use lib.ListN.{length}
-use lib.Dec.{eqb}
 use lib.Seq.{sets}
-use Rattle.buffer.specs.Pick.{pick}
-use Rattle.buffer.specs.Put.{Put}
-use Rattle.decode_image.specs.Read.{loadOf}
-use Rattle.encode_image.specs.Write.{responseRecord}
-use Rattle.csmp.specs.declared.Hash.{Hash}
-use Rattle.firmware.specs.Load.{loadAnswered, cancelAnswered, backupAnswered}
-use Rattle.firmware.specs.Open.{transferAnswered}
-use Rattle.firmware.specs.Place.{echoed}
-use Rattle.firmware.specs.declared.Answered.{Answered}
-use Rattle.registration.specs.Redirect.{redirected}
-use Rattle.schedule.specs.declared.Moment.{Moment}
-use Rattle.schedule.specs.declared.Moment.the-variants.{Absent as Never}
 use Rattle.state.specs.declared.Device.{Device}
-use Rattle.state.specs.declared.Images.{Images}
-use Rattle.state.specs.declared.Registration.{Registration}
 use Rattle.tlv.specs.Record.{Tlv}
-use Rattle.transfer.specs.Block.{Flash, takeBlock}
-use Rattle.run.specs.declared.Ran.{Ran}
-
--- what records may change
-pub record World : Type 0 where
-  pub images : Images
-  pub registration : Registration
-  pub flash : List ℕ
-
-abbrev pub withImages : World → Images → World
-withImages w i = record { images = i; registration = w .registration; flash = w .flash }
-
-abbrev pub withRegistration : World → Registration → World
-withRegistration w r = record { images = w .images; registration = r; flash = w .flash }
-
--- the open image and the image buffer
-abbrev pub withFlash : World → Flash → World
-withFlash w f =
-    record {
-      images =
-          record {
-            running = w .images .running;
-            «open» = w .images .«open»;
-            image = f .image;
-            pending = w .images .pending;
-            backup = w .images .backup;
-          };
-      registration = w .registration;
-      flash = f .bytes;
-    }
-
--- 67: a block goes to the open image
-unfoldable pub blockTaken : World → List ℕ → World
-blockTaken w v = pick (w .images .«open») (withFlash w (takeBlock (w .images .image) (w .flash) v)) w
-
--- what one record does; others than these are skipped
-unfoldable pub act : Device → World → ℕ → List ℕ → World
-act d w k v =
-    pick (eqb k 6) (withRegistration w (redirected d (w .registration) v))
-    (pick (eqb k 65) (withImages w (transferAnswered d (w .images) v .images))
-    (pick (eqb k 67) (blockTaken w v)
-    (pick (eqb k 68) (withImages w (loadAnswered (w .images) v .images))
-    (pick (eqb k 69) (withImages w (cancelAnswered (w .images) v .images))
-    (pick (eqb k 70) (withImages w (backupAnswered (w .images) v .images)) w)))))
-
--- 72 adds the load time on 0
-unfoldable pub loadTime : ℕ → List ℕ → Moment
-loadTime answer v = pick (eqb answer 0) (loadOf v .time) Never
-
--- the response that it gets: 71 to 74 echo the request's hash, its field 2 in a 65 and its field 1 in the others
-unfoldable pub response : Device → World → ℕ → List ℕ → List ℕ
-response d w k v =
-    pick (eqb k 65) (responseRecord 71 (echoed v 2) (transferAnswered d (w .images) v .answer) Never)
-    (pick (eqb k 68) (responseRecord 72 (echoed v 1) (loadAnswered (w .images) v .answer) (loadTime (loadAnswered (w .images) v .answer) v))
-    (pick (eqb k 69) (responseRecord 73 (echoed v 1) (cancelAnswered (w .images) v .answer) Never)
-    (pick (eqb k 70) (responseRecord 74 (echoed v 1) (backupAnswered (w .images) v .answer) Never) [])))
+use Rattle.step.specs.Step.{World, worldOf, act, response}
+use Rattle.step.specs.declared.Ran.{Ran}
 
 -- the records run in payload order
 unfoldable pub ran : Device → World → List Tlv → World
@@ -86,21 +17,6 @@ ran d w (t ∷ ts) = ran d (act d w (t .kind) (t .value)) ts
 unfoldable pub responses : Device → World → List Tlv → List ℕ
 responses d w [] = []
 responses d w (t ∷ ts) = response d w (t .kind) (t .value) ++ responses d (act d w (t .kind) (t .value)) ts
-
--- the world that a value of the code's and an image buffer are
-abbrev pub worldOf : Ran → List ℕ → World
-worldOf r flash = record { images = r .images; registration = r .registration; flash = flash }
-
--- what a request's answer leaves: its images, and its response appended
-pub record Responded (r : Ran) (a : Answered) (kind : ℕ) (h : Hash) (time : Moment) (out : List ℕ) (next : Ran) (left : List ℕ) : Type 0 where
-  pub images : next .images ≡ a .images
-  pub registration : next .registration ≡ r .registration
-  pub appended : Put out (r .end) (responseRecord kind h (a .answer) time) left (next .end)
-
--- what a record leaves: what it does, and its response appended
-pub record Stepped (d : Device) (w : World) (k : ℕ) (v : List ℕ) (out : List ℕ) (at : ℕ) (next : Ran) (flash left : List ℕ) : Type 0 where
-  pub world : worldOf next flash ≡ act d w k v
-  pub appended : Put out at (response d w k v) left (next .end)
 
 -- what all of them leave: the responses lie whole in the output
 pub record RanBy (d : Device) (w : World) (ts : List Tlv) (out : List ℕ) (at : ℕ) (next : Ran) (flash left : List ℕ) : Type 0 where

@@ -1,26 +1,17 @@
 // A posted payload: it is judged (steps e to i), and its records then run in their order (step j).
-mod record;
-
 use post::Judgement;
 use schedule::Point;
 use state::Device;
-use state::Images;
-use state::Registration;
 use state::State;
+use step::Ran;
 use tlv::Taken;
 ghost use mathlib.Core.Path.{_≡_};
 ghost use Prim.Native.Nat.{_+_, _*_, _≤_};
 ghost use lib.ListN.{length};
 ghost use Rattle.tlv.specs.Record.{records};
-ghost use Rattle.run.specs.Run.{worldOf, RanBy};
+ghost use Rattle.step.specs.Step.{worldOf};
+ghost use Rattle.run.specs.Run.{RanBy};
 ghost use Rattle.run.specs.Post.{PostedBy, posted};
-
-// What running records changes beside the image buffer, and where their responses end.
-pub struct Ran {
-    pub images: Images,
-    pub registration: Registration,
-    pub end: usize,
-}
 
 // A post's answer: the code of its reply, and what it changed.
 pub struct Posted {
@@ -41,7 +32,7 @@ fn run(device: Device, first: Ran, flash: &mut [u8], payload: &[u8], out: &mut [
         };
         let start = r.start;
         let end = r.end;
-        ran = record::run_record(device, ran, flash, r.kind, &payload[start..end], out);
+        ran = step::run_record(device, ran, flash, r.kind, &payload[start..end], out);
         at = end;
     }
     ran

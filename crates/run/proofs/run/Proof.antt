@@ -5,7 +5,7 @@ use native.Mathlib.Omega.{arith}
 use borrow.Author.Needs.{needs}
 use lib.ListN.{length}
 use Rattle.tlv.proofs.Laws.{record-inside}
-use Rattle.run.specs.Run.{worldOf}
+use Rattle.step.specs.Step.{worldOf}
 use Rattle.run.proofs.Walk.{rest-end, rest-unreadable, Going, going-start, going-end, going-next}
 use Rattle.run.proofs.run.Statement.{statement}
 use Rattle.run.proofs.run.Tie as tie
@@ -52,8 +52,7 @@ part-run-record-end c = let i = record-inside (c .before .before .before .before
     omega arith
 
 run-record-requires : tie.Need-run-record-requires Inv-loop μ-loop
-run-record-requires c κs = let r = c .before .before .before .before .before .before .before .before .loop .inv .0 .room in
-    omega arith
+run-record-requires c κs = search needs
 
 loop-less : tie.Need-loop-less Inv-loop μ-loop
 loop-less c = let i = record-inside (c .before .before .before .before .before .before .before .before .before .before .before .before .before .before .before .before .before .args .payload .now) (c .before .before .before .before .before .before .before .before .before .before .before .before .before .loop .at) _ (sym (c .before .before .before .before .before .before .before .before .before .before .before .take-record .ensures) ∙ c .before .before .before .before .before .before .before .before .before .r .given .1) in

@@ -1,7 +1,7 @@
 -- `firmware::place::is_hash` meets its contract: 32 bytes are a hash; bytes that end before they start are none.
 use mathlib.Core.Path.{sym, ap}
 use Rattle.firmware.specs.Place.{isHash}
-use Rattle.firmware.proofs.Answers.{hash-backward}
+use Rattle.firmware.proofs.Hashes.{hash-backward}
 use borrow.Author.Needs.{needs}
 use Rattle.firmware.proofs.place.is_hash.Statement.{statement}
 use Rattle.firmware.proofs.place.is_hash.Tie as tie

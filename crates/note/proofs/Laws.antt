@@ -1,0 +1,116 @@
+-- Laws of one record of an acknowledgement: what each test of the code says of the definitions.
+use Prim.Native.Nat.{ℕ, _-_, _≤_, _<_}
+use mathlib.Core.Path.{_≡_}
+use mathlib.Core.List.{List}
+use mathlib.Core.Bool.{true, false}
+use borrow.Author.Tests.{le-leb, lt-leb, ne-eqb}
+use lib.ListN.{length, take, drop}
+use Rattle.decode.specs.Read.{sessionOf, reportOf, groupOf}
+use Rattle.decode.specs.declared.Group.{Group}
+use Rattle.decode.specs.declared.Report.{Report}
+use Rattle.decode.specs.declared.Session.{Session}
+use Rattle.csmp.specs.declared.SessionId.{SessionId}
+use Rattle.protobuf.specs.Find.{bytesIn}
+use Rattle.protobuf.specs.declared.Bytes.the-variants.{At, Absent as NoBytes}
+use Rattle.protobuf.specs.declared.Number.the-variants.{Given, Absent}
+use Rattle.protobuf.proofs.FindLaws.{bytes-within}
+use Rattle.schedule.specs.declared.Point.{Point}
+use Rattle.state.specs.declared.Assigned.{Assigned}
+use Rattle.state.specs.declared.Device.{Device}
+use Rattle.note.specs.Note.{marked, withAssigned, redirectNoted, sessionIdOf, withSession, sessionNoted, withReport, reportNoted, withPair, pushed, withGroup, groupNoted, validityNoted, signatureNoted, noted}
+use Rattle.note.specs.declared.Learnt.{Learnt}
+
+-- one group more
+module _ (l : Learnt) (kind id : ℕ) where
+  pub pushed-full : 8 ≤ l .groups .count → pushed l kind id ≡ marked l false
+  unfolding pushed
+  pushed-full h = rw (le-leb 8 (l .groups .count) h)
+
+  pub pushed-more : l .groups .count < 8 → pushed l kind id ≡ withPair l kind id
+  unfolding pushed
+  pushed-more h = rw (lt-leb 8 (l .groups .count) h)
+
+module _ (l : Learnt) (m : Group) where
+  pub group-kindless : m .kind ≡ Absent → withGroup l m ≡ l
+  unfolding withGroup
+  group-kindless h = rw h
+
+  pub group-idless : (kind : ℕ) → m .kind ≡ Given kind → m .id ≡ Absent → withGroup l m ≡ l
+  unfolding withGroup
+  group-idless kind h k = rw (h, k)
+
+  pub group-whole : (kind id : ℕ) → m .kind ≡ Given kind → m .id ≡ Given id → withGroup l m ≡ pushed l kind id
+  unfolding withGroup
+  group-whole kind id h k = rw (h, k)
+
+-- a session: its id lies in the value
+module _ (a : Assigned) (v : List ℕ) (m : Session) (e : m ≡ sessionOf v) where
+  pub id-inside : (start stop : ℕ) → m .id ≡ At start stop → (start ≤ stop) × (stop ≤ length v)
+  unfolding sessionOf
+  id-inside start stop h =
+      let k : bytesIn v 1 ≡ At start stop = rw e at h in
+      bytes-within v 1 start stop k
+
+  pub session-none : m .id ≡ NoBytes → withSession a v ≡ a
+  unfolding withSession
+  session-none h = rw (rw e at h)
+
+  pub session-some : (start stop : ℕ) → m .id ≡ At start stop → (s : SessionId) → s ≡ sessionIdOf (take (stop - start) (drop start v))
+      → withSession a v ≡ record {
+        groups = a .groups;
+        «in_session» = true;
+        session = s;
+        reporting = a .reporting;
+        interval = a .interval;
+        ids = a .ids;
+        heartbeat = a .heartbeat;
+        «heartbeat_ids» = a .«heartbeat_ids»;
+      }
+  unfolding withSession
+  session-some start stop h s k = rw (rw e at h, k)
+
+-- what each record adds
+module _ (l : Learnt) (v : List ℕ) where
+  pub session-is : (m : Session) (k : Learnt) (a : Assigned) → m ≡ sessionOf v → k ≡ marked l (m .readable) → a ≡ withSession (l .assigned) v
+      → withAssigned k a ≡ sessionNoted l v
+  unfolding sessionNoted
+  session-is m k a e f g = rw (f, g, e)
+
+  pub report-is : (m : Report) (k : Learnt) (a : Assigned) → m ≡ reportOf v → k ≡ marked l (m .readable) → a ≡ withReport (l .assigned) v
+      → withAssigned k a ≡ reportNoted l v
+  unfolding reportNoted
+  report-is m k a e f g = rw (f, g, e)
+
+  pub group-is : (m : Group) (g k : Learnt) → m ≡ groupOf v → g ≡ withGroup l m → k ≡ marked g (m .readable) → k ≡ groupNoted l v
+  unfolding groupNoted
+  group-is m g k e f h = rw (h, f, e)
+
+-- one record, by its type
+module _ (d : Device) (time : Point) (l : Learnt) (k : ℕ) (v : List ℕ) where
+  pub noted-6 : k ≡ 6 → noted d time l k v ≡ redirectNoted d l v
+  unfolding noted
+  noted-6 h = rw h
+
+  pub noted-7 : k ≡ 7 → noted d time l k v ≡ sessionNoted l v
+  unfolding noted
+  noted-7 h = rw h
+
+  pub noted-13 : k ≡ 13 → noted d time l k v ≡ reportNoted l v
+  unfolding noted
+  noted-13 h = rw h
+
+  pub noted-55 : k ≡ 55 → noted d time l k v ≡ groupNoted l v
+  unfolding noted
+  noted-55 h = rw h
+
+  pub noted-76 : k ≡ 76 → noted d time l k v ≡ validityNoted l v time
+  unfolding noted
+  noted-76 h = rw h
+
+  pub noted-77 : k ≡ 77 → noted d time l k v ≡ signatureNoted l v
+  unfolding noted
+  noted-77 h = rw h
+
+  pub noted-other : (k ≡ 6 → ⊥) → (k ≡ 7 → ⊥) → (k ≡ 13 → ⊥) → (k ≡ 55 → ⊥) → (k ≡ 76 → ⊥) → (k ≡ 77 → ⊥) → noted d time l k v ≡ l
+  unfolding noted
+  noted-other a b c e f g = rw (ne-eqb k 6 a, ne-eqb k 7 b, ne-eqb k 13 c, ne-eqb k 55 e, ne-eqb k 76 f, ne-eqb k 77 g)

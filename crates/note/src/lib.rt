@@ -1,0 +1,202 @@
+// One record of an acknowledgement.
+use csmp::SessionId;
+use decode::Group;
+use protobuf::Bytes;
+use protobuf::Number;
+use schedule::Point;
+use state::Assigned;
+use state::Device;
+use state::Groups;
+use state::Pair;
+use state::Registration;
+ghost use mathlib.Core.Path.{_≡_};
+ghost use Rattle.note.specs.Note.{nothingLearnt, marked, sessionIdOf, withSession, withReport, pushed, withGroup, redirectNoted, sessionNoted, reportNoted, groupNoted, validityNoted, signatureNoted, noted};
+
+// What a walk over an acknowledgement has learnt: whether it can be read, is signed, is not valid now; whether a redirect was followed and
+// registration after it; what was assigned; the complete GroupAssigns.
+pub struct Learnt {
+    pub readable: bool,
+    pub signed: bool,
+    pub expired: bool,
+    pub redirected: bool,
+    pub registration: Registration,
+    pub assigned: Assigned,
+    pub groups: Groups,
+}
+
+// Before the first record.
+pub fn nothing(registration: Registration, assigned: Assigned) -> Learnt
+    ensures { λ r. ⌜ r ≡ nothingLearnt registration assigned ⌝ }
+{
+    Learnt {
+        readable: true,
+        signed: false,
+        expired: false,
+        redirected: false,
+        registration,
+        assigned,
+        groups: state::no_groups(),
+    }
+}
+
+// Less readable than before, if a value is not.
+pub fn mark(learnt: Learnt, readable: bool) -> Learnt
+    ensures { λ r. ⌜ r ≡ marked learnt readable ⌝ }
+{
+    let mut next = learnt;
+    next.readable = buffer::both(learnt.readable, readable);
+    next
+}
+
+// The last redirect that is not ignored counts: each starts registration again.
+fn note_redirect(device: Device, learnt: Learnt, v: &[u8]) -> Learnt
+    ensures { λ r. ⌜ r ≡ redirectNoted device learnt (now (v .entry)) ⌝ }
+{
+    let old = learnt.registration;
+    let registration = registration::redirect(device, old, v);
+    let redirected = buffer::either(learnt.redirected, registration::is_followed(v));
+    let mut next = mark(learnt, decode::read_redirect(v).readable);
+    next.registration = registration;
+    next.redirected = redirected;
+    next
+}
+
+fn session_id_of(s: &[u8]) -> SessionId
+    ensures { λ r. ⌜ r ≡ sessionIdOf (now (s .entry)) ⌝ }
+{
+    let mut bytes = [0u8; 64];
+    buffer::copy(&mut bytes, s);
+    SessionId {
+        bytes,
+        len: s.len(),
+    }
+}
+
+// A session with an id; one without is ignored.
+fn with_session(assigned: Assigned, v: &[u8]) -> Assigned
+    ensures { λ r. ⌜ r ≡ withSession assigned (now (v .entry)) ⌝ }
+{
+    let m = decode::read_session(v);
+    let place = m.id;
+    let Bytes::At(start, end) = place else {
+        return assigned;
+    };
+    let session = session_id_of(&v[start..end]);
+    let mut next = assigned;
+    next.in_session = true;
+    next.session = session;
+    next
+}
+
+fn note_session(learnt: Learnt, v: &[u8]) -> Learnt
+    ensures { λ r. ⌜ r ≡ sessionNoted learnt (now (v .entry)) ⌝ }
+{
+    let old = learnt.assigned;
+    let assigned = with_session(old, v);
+    let mut next = mark(learnt, decode::read_session(v).readable);
+    next.assigned = assigned;
+    next
+}
+
+// A report, as it is given.
+fn with_report(assigned: Assigned, v: &[u8]) -> Assigned
+    ensures { λ r. ⌜ r ≡ withReport assigned (now (v .entry)) ⌝ }
+{
+    let m = decode_report::read_report(v);
+    let groups = assigned.groups;
+    let session = assigned.session;
+    let interval = m.interval;
+    let ids = m.ids;
+    let heartbeat = m.heartbeat;
+    let heartbeat_ids = m.heartbeat_ids;
+    Assigned {
+        groups,
+        in_session: assigned.in_session,
+        session,
+        reporting: true,
+        interval,
+        ids,
+        heartbeat,
+        heartbeat_ids,
+    }
+}
+
+fn note_report(learnt: Learnt, v: &[u8]) -> Learnt
+    ensures { λ r. ⌜ r ≡ reportNoted learnt (now (v .entry)) ⌝ }
+{
+    let old = learnt.assigned;
+    let assigned = with_report(old, v);
+    let mut next = mark(learnt, decode_report::read_report(v).readable);
+    next.assigned = assigned;
+    next
+}
+
+// One group more; over 8 make the acknowledgement unreadable.
+fn push(learnt: Learnt, kind: u32, id: u32) -> Learnt
+    ensures { λ r. ⌜ r ≡ pushed learnt kind id ⌝ }
+{
+    let n = learnt.groups.count;
+    if 8 <= n {
+        return mark(learnt, false);
+    }
+    let mut list = learnt.groups.list;
+    list[n] = Pair { kind, id };
+    let groups = Groups { list, count: n + 1 };
+    let mut next = learnt;
+    next.groups = groups;
+    next
+}
+
+// A complete GroupAssign; another is ignored.
+fn with_group(learnt: Learnt, m: Group) -> Learnt
+    ensures { λ r. ⌜ r ≡ withGroup learnt m ⌝ }
+{
+    let given_kind = m.kind;
+    let given_id = m.id;
+    let Number::Given(kind) = given_kind else {
+        return learnt;
+    };
+    let Number::Given(id) = given_id else {
+        return learnt;
+    };
+    push(learnt, kind, id)
+}
+
+fn note_group(learnt: Learnt, v: &[u8]) -> Learnt
+    ensures { λ r. ⌜ r ≡ groupNoted learnt (now (v .entry)) ⌝ }
+{
+    let m = decode::read_group(v);
+    mark(with_group(learnt, m), m.readable)
+}
+
+fn note_validity(learnt: Learnt, v: &[u8], time: Point) -> Learnt
+    ensures { λ r. ⌜ r ≡ validityNoted learnt (now (v .entry)) time ⌝ }
+{
+    let expired = buffer::either(learnt.expired, post::is_expired(76, v, time));
+    let mut next = mark(learnt, decode::read_validity(v).readable);
+    next.expired = expired;
+    next
+}
+
+fn note_signature(learnt: Learnt, v: &[u8]) -> Learnt
+    ensures { λ r. ⌜ r ≡ signatureNoted learnt (now (v .entry)) ⌝ }
+{
+    let mut next = mark(learnt, decode::read_signature(v));
+    next.signed = true;
+    next
+}
+
+// One record more; others than these are skipped unread.
+pub fn note(device: Device, learnt: Learnt, kind: u64, v: &[u8], time: Point) -> Learnt
+    ensures { λ r. ⌜ r ≡ noted device time learnt kind (now (v .entry)) ⌝ }
+{
+    match kind {
+        6 => note_redirect(device, learnt, v),
+        7 => note_session(learnt, v),
+        13 => note_report(learnt, v),
+        55 => note_group(learnt, v),
+        76 => note_validity(learnt, v, time),
+        77 => note_signature(learnt, v),
+        _ => learnt,
+    }
+}

@@ -1,0 +1,97 @@
+-- Laws of one record's run: what each arm of the code says of the definitions.
+use Prim.Native.Nat.{ℕ}
+use mathlib.Core.Path.{_≡_, refl}
+use mathlib.Core.List.{List, []}
+use mathlib.Core.Bool.{true, false}
+use borrow.Author.Tests.{eq-eqb, ne-eqb}
+use Rattle.decode.specs.Read.{loadOf}
+use Rattle.encode.specs.Write.{responseRecord}
+use Rattle.csmp.specs.declared.Hash.{Hash}
+use Rattle.csmp.specs.declared.Image.{Image}
+use Rattle.decode.specs.declared.Load.{Load}
+use Rattle.loading.specs.Load.{loadAnswered, cancelAnswered, backupAnswered}
+use Rattle.opening.specs.Open.{transferAnswered}
+use Rattle.firmware.specs.Place.{echoed}
+use Rattle.firmware.specs.declared.Answered.{Answered}
+use Rattle.registration.specs.Redirect.{redirected}
+use Rattle.schedule.specs.declared.Moment.{Moment}
+use Rattle.schedule.specs.declared.Moment.the-variants.{Absent as Never}
+use Rattle.state.specs.declared.Device.{Device}
+use Rattle.transfer.specs.Block.{Left, takeBlock}
+use Rattle.step.specs.Step.{World, withImages, withFlash, worldOf, blockTaken, act, loadTime, response, Responded, Passed, Stepped}
+use Rattle.step.specs.declared.Ran.{Ran}
+
+-- the time of a load that was accepted
+pub time-none : (answer : ℕ) (v : List ℕ) → (answer ≡ 0 → ⊥) → Never ≡ loadTime answer v
+unfolding loadTime
+time-none answer v h = rw (ne-eqb answer 0 h)
+
+pub time-load : (answer : ℕ) (v : List ℕ) (m : Load) → answer ≡ 0 → m ≡ loadOf v → m .time ≡ loadTime answer v
+unfolding loadTime
+time-load answer v m h e = rw (eq-eqb answer 0 h, e)
+
+-- a response, said of what the definitions say
+pub responded : {r : Ran} {a b : Answered} {kind : ℕ} {g h : Hash} {s t : Moment} {out : List ℕ} {next : Ran} {left : List ℕ}
+    → a ≡ b → g ≡ h → s ≡ t → Responded r a kind g s out next left → Responded r b kind h t out next left
+responded e f k x = rw (e, f, k) at x
+
+-- a block
+pub block-closed : (w : World) (v : List ℕ) → w .images .«open» ≡ false → w ≡ blockTaken w v
+unfolding blockTaken
+block-closed w v h = rw h
+
+pub block-open : (w : World) (v : List ℕ) {i : Image} {bs : List ℕ} → w .images .«open» ≡ true → Left (takeBlock (w .images .image) (w .flash) v) i bs
+    → withFlash w (record { image = i; bytes = bs }) ≡ blockTaken w v
+unfolding blockTaken
+block-open w v h l = rw (h, l .same-image, l .same-bytes)
+
+-- an arm that answers, and one that does not
+module _ (d : Device) (k : ℕ) (v : List ℕ) (out : List ℕ) (r next : Ran) (flash : List ℕ) where
+  step-answered : {left : List ℕ} (a : Answered) (kind : ℕ) (h : Hash) (time : Moment)
+      → act d (worldOf r flash) k v ≡ withImages (worldOf r flash) (a .images)
+      → response d (worldOf r flash) k v ≡ responseRecord kind h (a .answer) time
+      → Responded r a kind h time out next left → Stepped d (worldOf r flash) k v out (r .end) next flash left
+  step-answered a kind h time e f x = record { world = rw (e, x .images, x .registration); appended = rw f (x .appended) }
+
+  step-silent : (now : List ℕ) {left : List ℕ} (m : Ran) → worldOf m now ≡ act d (worldOf r flash) k v → response d (worldOf r flash) k v ≡ []
+      → m .end ≡ r .end → Passed m out next left → Stepped d (worldOf r flash) k v out (r .end) next now left
+  step-silent now m e f g x = record { world = rw (x .images, x .registration) e; appended = rw (f, ← g) (x .appended) }
+
+  pub step-6 : {left : List ℕ} (m : Ran) → k ≡ 6 → m ≡ record { images = r .images; registration = redirected d (r .registration) v; «end» = r .end }
+      → Passed m out next left → Stepped d (worldOf r flash) k v out (r .end) next flash left
+  unfolding act response
+  step-6 m e f x = step-silent flash m (rw (e, f)) (rw e) (rw f) x
+
+  pub step-67 : (now : List ℕ) {left : List ℕ} (m : Ran) → k ≡ 67 → (worldOf m now ≡ blockTaken (worldOf r flash) v) × (m .end ≡ r .end)
+      → Passed m out next left → Stepped d (worldOf r flash) k v out (r .end) next now left
+  unfolding act response
+  step-67 now m e f x = step-silent now m (rw e (f .0)) (rw e) (f .1) x
+
+  pub step-65 : {left : List ℕ} → k ≡ 65 → Responded r (transferAnswered d (r .images) v) 71 (echoed v 2) Never out next left
+      → Stepped d (worldOf r flash) k v out (r .end) next flash left
+  unfolding act response
+  step-65 e x = step-answered _ _ _ _ (rw e) (rw e) x
+
+  pub step-68 : {left : List ℕ} → k ≡ 68 → Responded r (loadAnswered (r .images) v) 72 (echoed v 1) (loadTime (loadAnswered (r .images) v .answer) v) out next left
+      → Stepped d (worldOf r flash) k v out (r .end) next flash left
+  unfolding act response
+  step-68 e x = step-answered _ _ _ _ (rw e) (rw e) x
+
+  pub step-69 : {left : List ℕ} → k ≡ 69 → Responded r (cancelAnswered (r .images) v) 73 (echoed v 1) Never out next left
+      → Stepped d (worldOf r flash) k v out (r .end) next flash left
+  unfolding act response
+  step-69 e x = step-answered _ _ _ _ (rw e) (rw e) x
+
+  pub step-70 : {left : List ℕ} → k ≡ 70 → Responded r (backupAnswered (r .images) v) 74 (echoed v 1) Never out next left
+      → Stepped d (worldOf r flash) k v out (r .end) next flash left
+  unfolding act response
+  step-70 e x = step-answered _ _ _ _ (rw e) (rw e) x
+
+  -- a record that is none of these
+  pub step-other : {left : List ℕ} → (k ≡ 6 → ⊥) → (k ≡ 65 → ⊥) → (k ≡ 67 → ⊥) → (k ≡ 68 → ⊥) → (k ≡ 69 → ⊥) → (k ≡ 70 → ⊥)
+      → Passed r out next left → Stepped d (worldOf r flash) k v out (r .end) next flash left
+  unfolding act response
+  step-other a b e f g i x =
+      step-silent flash r
+      (rw (ne-eqb k 6 a, ne-eqb k 65 b, ne-eqb k 67 e, ne-eqb k 68 f, ne-eqb k 69 g, ne-eqb k 70 i))
+      (rw (ne-eqb k 65 b, ne-eqb k 68 f, ne-eqb k 69 g, ne-eqb k 70 i)) refl x
