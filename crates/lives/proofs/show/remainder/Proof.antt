@@ -1,10 +1,10 @@
--- `player::show::remainder` is safe and ends: the sum stays below the modulus, and the index rises to the length.
+-- `show::remainder` is safe and ends: the sum stays below the modulus, and the index rises to the length.
 use Prim.Native.Nat.{_-_, _<_}
 use native.Mathlib.Omega.{arith}
 use lib.ListN.{length}
 use borrow.Author.Needs.{needs}
-use Rattle.player.proofs.show.remainder.Statement.{statement}
-use Rattle.player.proofs.show.remainder.Tie as tie
+use Rattle.lives.proofs.show.remainder.Statement.{statement}
+use Rattle.lives.proofs.show.remainder.Tie as tie
 
 abbrev Inv-loop : tie.InvT-loop
 Inv-loop s sum₀ i₀ sum i = sum < 65521

@@ -1,9 +1,9 @@
--- `text::next_line` is safe and ends: the index rises to the length.
+-- `text::line_at` is safe and ends: the index rises to the length.
 use Prim.Native.Nat.{_-_, _≤_}
 use lib.ListN.{length}
 use borrow.Author.Needs.{needs}
-use Rattle.lives.proofs.text.next_line.Statement.{statement}
-use Rattle.lives.proofs.text.next_line.Tie as tie
+use Rattle.lives.proofs.text.line_at.Statement.{statement}
+use Rattle.lives.proofs.text.line_at.Tie as tie
 
 abbrev Inv-loop : tie.InvT-loop
 Inv-loop s at i₀ i = (at ≤ i) × (i ≤ length s)
@@ -17,8 +17,8 @@ loop-holds c = search needs
 shared-slice-read-if1 : tie.Need-shared-slice-read-if1 Inv-loop μ-loop
 shared-slice-read-if1 c = search needs
 
-add-result : tie.Need-add-result Inv-loop μ-loop
-add-result c = search needs
+add-t8 : tie.Need-add-t8 Inv-loop μ-loop
+add-t8 c = search needs
 
 returns : tie.Need-returns Inv-loop μ-loop
 returns c = search needs
@@ -35,15 +35,15 @@ loop-again c = search needs
 returns-2 : tie.Need-returns-2 Inv-loop μ-loop
 returns-2 c = search needs
 
-pub next-line-spec : {M : Type 1} → statement M
-next-line-spec =
+pub line-at-spec : {M : Type 1} → statement M
+line-at-spec =
     tie.close
     (tie.spec
     Inv-loop
     μ-loop
     loop-holds
     shared-slice-read-if1
-    add-result
+    add-t8
     returns
     add-i
     loop-less
