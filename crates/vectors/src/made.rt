@@ -1,5 +1,5 @@
-// Records that the writers make, each printed in hex.
-use crate::show;
+// Records that the writers make, each printed in hex; protoc makes the same.
+use crate::messages;
 use csmp::Hash;
 use csmp::Image;
 use csmp::Index;
@@ -15,7 +15,7 @@ use schedule::Point;
 // A written record: the first n bytes, or `full` where it did not fit.
 fn made(out: &[u8], n: usize) {
     if n <= out.len() {
-        show::hex(&out[..n]);
+        messages::hex(&out[..n]);
     } else {
         lines::word(b"full");
     }

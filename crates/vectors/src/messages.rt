@@ -1,4 +1,6 @@
-// One line for what a reader says, and one for what a writer makes.
+// What the readers say of the messages of the CSMP draft. They were encoded by protoc from its definitions; some are put
+// together from such encodings with fields out of order, repeated, padded and unknown, and some are damaged.
+use crate::say;
 use decimal::Ids;
 use protobuf::Bytes;
 use protobuf::Flag;
@@ -33,66 +35,48 @@ fn bytes(v: &[u8], place: Bytes) {
 }
 
 fn given(n: Number) {
-    lines::word(b" ");
     let Number::Given(x) = n else {
-        lines::word(b"-");
+        lines::word(b" -");
         return;
     };
-    lines::number(x as u64);
+    say::number(x as u64);
 }
 
 fn flag(f: Flag) {
-    lines::word(b" ");
     let Flag::Given(b) = f else {
-        lines::word(b"-");
+        lines::word(b" -");
         return;
     };
     if b {
-        lines::word(b"true");
+        lines::word(b" true");
     } else {
-        lines::word(b"false");
+        lines::word(b" false");
     }
 }
 
 fn moment(m: Moment) {
-    lines::word(b" ");
     let Moment::At(p) = m else {
-        lines::word(b"-");
+        lines::word(b" -");
         return;
     };
-    lines::number(p.0 as u64);
+    say::number(p.0 as u64);
 }
 
 fn interval(i: Interval) {
-    lines::word(b" ");
     let Interval::Every(l) = i else {
-        lines::word(b"-");
+        lines::word(b" -");
         return;
     };
-    lines::number(l.0 as u64);
+    say::number(l.0 as u64);
 }
 
-fn id(n: u32) {
-    lines::word(b" ");
-    lines::number(n as u64);
-}
-
-fn ids(l: Ids) {
+fn ids(list: Ids) {
     lines::word(b" [");
-    let list = l.list;
-    let mut i = 0;
-    while i < 32 {
-        if l.count <= i {
-            lines::word(b"]");
-            return;
-        }
-        id(list[i]);
-        i += 1;
-    }
+    say::ids(list);
     lines::word(b"]");
 }
 
-pub fn redirect(v: &[u8]) {
+fn redirect(v: &[u8]) {
     let m = decode::read_redirect(v);
     readable(m.readable);
     let url = m.url;
@@ -101,14 +85,14 @@ pub fn redirect(v: &[u8]) {
     flag(immediate);
 }
 
-pub fn session(v: &[u8]) {
+fn session(v: &[u8]) {
     let m = decode::read_session(v);
     readable(m.readable);
     let id = m.id;
     bytes(v, id);
 }
 
-pub fn report(v: &[u8]) {
+fn report(v: &[u8]) {
     let m = decode::read_report(v);
     readable(m.readable);
     let every = m.interval;
@@ -121,7 +105,7 @@ pub fn report(v: &[u8]) {
     ids(second);
 }
 
-pub fn group(v: &[u8]) {
+fn group(v: &[u8]) {
     let m = decode::read_group(v);
     readable(m.readable);
     let kind = m.kind;
@@ -130,7 +114,7 @@ pub fn group(v: &[u8]) {
     given(id);
 }
 
-pub fn transfer(v: &[u8]) {
+fn transfer(v: &[u8]) {
     let m = decode::read_transfer(v);
     readable(m.readable);
     let hw_id = m.hw_id;
@@ -149,7 +133,7 @@ pub fn transfer(v: &[u8]) {
     given(block_size);
 }
 
-pub fn block(v: &[u8]) {
+fn block(v: &[u8]) {
     let m = decode::read_block(v);
     readable(m.readable);
     let file_hash = m.hash;
@@ -160,7 +144,7 @@ pub fn block(v: &[u8]) {
     bytes(v, data);
 }
 
-pub fn load(v: &[u8]) {
+fn load(v: &[u8]) {
     let m = decode::read_load(v);
     readable(m.readable);
     let file_hash = m.hash;
@@ -169,14 +153,14 @@ pub fn load(v: &[u8]) {
     moment(time);
 }
 
-pub fn hash(v: &[u8]) {
+fn hash(v: &[u8]) {
     let m = decode::read_hash(v);
     readable(m.readable);
     let file_hash = m.hash;
     bytes(v, file_hash);
 }
 
-pub fn validity(v: &[u8]) {
+fn validity(v: &[u8]) {
     let m = decode::read_validity(v);
     readable(m.readable);
     let from = m.not_before;
@@ -185,6 +169,30 @@ pub fn validity(v: &[u8]) {
     moment(to);
 }
 
-pub fn signature(v: &[u8]) {
+fn signature(v: &[u8]) {
     readable(decode::read_signature(v));
+}
+
+// What the reader of a record's type says of its value.
+fn read(kind: u64, v: &[u8]) {
+    match kind {
+        6 => redirect(v),
+        7 => session(v),
+        13 => report(v),
+        55 | 57 => group(v),
+        65 => transfer(v),
+        67 => block(v),
+        68 => load(v),
+        69 | 70 => hash(v),
+        76 => validity(v),
+        77 => signature(v),
+        _ => lines::word(b"unknown"),
+    }
+}
+
+pub fn print(kind: u64, v: &[u8]) {
+    lines::number(kind);
+    lines::word(b" ");
+    read(kind, v);
+    lines::word(b"\n");
 }

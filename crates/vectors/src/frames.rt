@@ -1,36 +1,23 @@
-// Prints what is read of the CoAP datagrams on standard input, one record each: the frame, its options, and of a
-// request whether step a refuses it, its path and the ids that its query asks for.
+// What is read of a CoAP datagram: the frame, its options, and of a request whether step a refuses it, its path and the
+// ids that its query asks for.
 //
-// The input was made by a Python script: the messages of RFC 7252's appendixes A and B; deltas and lengths on both
+// The datagrams were made by a Python script: the messages of RFC 7252's appendixes A and B; deltas and lengths on both
 // sides of each border; tokens of 0 to 15 bytes; options and markers that are damaged or cut short; other versions
-// and codes; paths and queries, good and bad. The output to meet was not taken from this program: it was written by a
-// reader in Python, made from RFC 7252, section 3, and document 01 alone. The last record is cut short.
+// and codes; paths and queries, good and bad. The output to meet was written by a reader in Python, made from RFC 7252,
+// section 3, and document 01 alone. The last record is cut short.
+use crate::say;
 use coap::CoapOption;
 use coap::Datagram;
 use coap::Frame;
 use coap::Next;
 use decimal::Ids;
-use libc::STDIN_FILENO;
 use request::Path;
 use request::Query;
-use tlv::Taken;
-
-// A blank and a number.
-fn say_number(n: u64) {
-    lines::word(b" ");
-    lines::number(n);
-}
-
-// A blank and bytes in hex.
-fn say_bytes(b: &[u8]) {
-    lines::word(b" ");
-    lines::hex(b);
-}
 
 // A blank and a code: class, point, and two digits of detail.
 fn say_code(code: u8) {
     let c = buffer::wide(code);
-    say_number(c / 32);
+    say::number(c / 32);
     lines::word(b".");
     lines::number(c % 32 / 10);
     lines::number(c % 32 % 10);
@@ -38,8 +25,8 @@ fn say_code(code: u8) {
 
 fn print_option(s: &[u8], o: CoapOption) {
     lines::word(b"option");
-    say_number(o.number);
-    say_bytes(buffer::part(s, o.start, o.end));
+    say::number(o.number);
+    say::bytes(buffer::part(s, o.start, o.end));
     lines::word(b"\n");
 }
 
@@ -63,7 +50,7 @@ fn print_path(path: Path) {
         }
         Path::Record(id) => {
             lines::word(b" path record");
-            say_number(id as u64);
+            say::number(id as u64);
         }
         Path::Other => {
             lines::word(b" path other");
@@ -72,19 +59,10 @@ fn print_path(path: Path) {
 }
 
 fn print_ids(ids: Ids) {
-    let list = ids.list;
-    let n = ids.count;
-    if n == 0 {
+    if ids.count == 0 {
         lines::word(b" bad");
     }
-    let mut i = 0;
-    while i < n {
-        if 32 <= i {
-            return;
-        }
-        say_number(list[i] as u64);
-        i += 1;
-    }
+    say::ids(ids);
 }
 
 fn print_query(s: &[u8], query: Query) {
@@ -123,12 +101,12 @@ fn is_request(code: u8) -> bool {
 
 fn print_frame(s: &[u8], f: Frame) {
     lines::word(b"frame");
-    say_number(f.kind as u64);
+    say::number(f.kind as u64);
     say_code(f.code);
-    say_number(f.id as u64);
+    say::number(f.id as u64);
     let payload = f.payload;
     if payload <= s.len() {
-        say_bytes(&s[payload..]);
+        say::bytes(&s[payload..]);
     }
     lines::word(b"\n");
     print_options(s, f.options);
@@ -144,8 +122,8 @@ fn print_datagram(s: &[u8]) {
         }
         Datagram::Malformed(kind, id) => {
             lines::word(b"malformed");
-            say_number(kind as u64);
-            say_number(id as u64);
+            say::number(kind as u64);
+            say::number(id as u64);
             lines::word(b"\n");
         }
         Datagram::Foreign => {
@@ -154,28 +132,7 @@ fn print_datagram(s: &[u8]) {
     }
 }
 
-fn print_record(kind: u64, value: &[u8]) {
-    lines::word(b"record");
-    say_number(kind);
-    say_number(value.len() as u64);
-    lines::word(b"\n");
-    print_datagram(value);
-}
-
-fn print_records(s: &[u8]) {
-    let mut at = 0;
-    while at < s.len() {
-        let Taken::Record(r) = tlv::take_record(s, at) else {
-            lines::word(b"unreadable\n");
-            return;
-        };
-        print_record(r.kind, buffer::part(s, r.start, r.end));
-        at = r.end;
-    }
-}
-
-fn main() {
-    let mut space = [0u8; 4096];
-    let n = io::read_full(STDIN_FILENO, &mut space);
-    print_records(&space[..n]);
+pub fn print(kind: u64, v: &[u8]) {
+    say::record(kind, v);
+    print_datagram(v);
 }

@@ -1,9 +1,9 @@
--- `messages::made::made` is safe: the first n bytes are within the buffer.
+-- `made::made` is safe: the first n bytes are within the buffer.
 use native.Mathlib.Omega.{arith}
 use lib.ListN.{length-take}
 use borrow.Author.Needs.{needs}
-use Rattle.messages.proofs.made.made.Statement.{statement}
-use Rattle.messages.proofs.made.made.Tie as tie
+use Rattle.vectors.proofs.made.made.Statement.{statement}
+use Rattle.vectors.proofs.made.made.Tie as tie
 
 slice-aggregate-hex : tie.Need-slice-aggregate-hex
 slice-aggregate-hex c = simp length-take (omega arith)

@@ -5,8 +5,8 @@ use native.Mathlib.Omega.{arith}
 use lib.ListN.{length}
 use borrow.Author.Needs.{needs}
 use Rattle.coap.proofs.Laws.{option-inside}
-use Rattle.frames.proofs.print_options.Statement.{statement}
-use Rattle.frames.proofs.print_options.Tie as tie
+use Rattle.vectors.proofs.frames.print_options.Statement.{statement}
+use Rattle.vectors.proofs.frames.print_options.Tie as tie
 
 abbrev Inv-loop : tie.InvT-loop
 Inv-loop s from at₀ before₀ at before = Unit {0}
