@@ -1,8 +1,14 @@
 // Plays the lives of devices: each line on standard input is a call of the agent, printed again with what it answers.
 //
-// The calls and their answers were written by an independent model of document 01: three lives (waits, rounds,
-// acknowledgements, redirects, reports, loads, boots; signed responses; refusals), and setups at their limits. A life's
-// calls go on from one state. Bytes are in hex, numbers decimal, `-` is none; other lines are printed as they are.
+// A life's calls go on from one state. Bytes are in hex, numbers decimal, `-` is none. A line `store` holds a store for
+// calls that say `store=held`, and a line `image` shows the open image; other lines are printed as they are. No answer
+// was taken from this program: they are those of models written from document 01. The first lives came with the order
+// (waits, rounds, acknowledgements, redirects, reports, loads, boots; signed responses; refusals; setups at their
+// limits). Then come transfers and questions, whose datagrams were made by a script: blocks by multicast and again to a
+// straggler, repeated with other bytes, out of order, damaged; steps a to i, refusals and resets; every answer to
+// records 65 and 68 to 70; TlvIndex, ids by path and by query, copied spellings, replies of 1,280 bytes and one more;
+// stores at their limits; record 75 in every state of the images; groups and reports as acknowledgements assign them.
+mod show;
 mod text;
 
 use agent::Report;
@@ -12,20 +18,10 @@ use schedule::Point;
 use state::Settings;
 use state::Setup;
 use state::State;
+use text::Line;
 ghost use mathlib.Core.Path.{_≡_};
 ghost use Prim.Native.Nat.{_≤_};
 ghost use lib.ListN.{length};
-
-fn show_number(key: &[u8], n: u64) {
-    lines::word(key);
-    lines::number(n);
-}
-
-// What went out.
-fn show_bytes(key: &[u8], out: &[u8], len: usize) {
-    lines::word(key);
-    lines::hex(buffer::front(out, len));
-}
 
 fn settings(line: &[u8]) -> Settings {
     Settings {
@@ -58,13 +54,13 @@ fn made(line: &[u8]) -> Setup {
 
 fn set_up(line: &[u8]) -> State {
     let made = made(line);
-    show_number(b" -> outcome=", made.outcome as u64);
+    show::number(b" -> outcome=", made.outcome as u64);
     made.state
 }
 
 fn first_wait(state: State, line: &[u8]) -> State {
     let wait = agent::first_wait(state, text::number(line, b" r="));
-    show_number(b" -> ", wait.0 as u64);
+    show::number(b" -> ", wait.0 as u64);
     state
 }
 
@@ -85,10 +81,10 @@ fn time(line: &[u8]) -> Point {
 
 fn round(state: State, out: &mut [u8], store: &[u8], line: &[u8]) -> State {
     let r = agent::round(state, out, store, time(line), text::number(line, b" r="));
-    show_number(b" -> outcome=", r.answer.outcome as u64);
-    show_number(b" backoff=", r.backoff.0 as u64);
-    show_number(b" rest=", r.rest.0 as u64);
-    show_bytes(b" sent=", out, r.answer.len);
+    show::number(b" -> outcome=", r.answer.outcome as u64);
+    show::number(b" backoff=", r.backoff.0 as u64);
+    show::number(b" rest=", r.rest.0 as u64);
+    show::bytes(b" sent=", out, r.answer.len);
     r.answer.state
 }
 
@@ -102,8 +98,8 @@ fn which(line: &[u8]) -> Report {
 
 fn report(state: State, out: &mut [u8], store: &[u8], line: &[u8]) -> State {
     let r = agent::report(state, out, store, time(line), which(line));
-    show_number(b" -> outcome=", r.outcome as u64);
-    show_bytes(b" sent=", out, r.len);
+    show::number(b" -> outcome=", r.outcome as u64);
+    show::bytes(b" sent=", out, r.len);
     r.state
 }
 
@@ -113,8 +109,8 @@ fn datagram(state: State, image: &mut [u8], out: &mut [u8], store: &[u8], line: 
     let given = buffer::front(&bytes, n);
     let verdict = (text::number(line, b" verdict=") % 256) as u8;
     let r = agent::datagram(state, image, out, given, store, time(line), verdict);
-    show_number(b" -> outcome=", r.outcome as u64);
-    show_bytes(b" reply=", out, r.len);
+    show::number(b" -> outcome=", r.outcome as u64);
+    show::bytes(b" reply=", out, r.len);
     r.state
 }
 
@@ -143,21 +139,27 @@ fn lend(state: State, image: &mut [u8], out: &mut [u8], store: &[u8], line: &[u8
     state
 }
 
-// Lends as much of the buffers as the line and the setup say.
-fn ask(state: State, image: &mut [u8], line: &[u8]) -> State
+// Lends as much of the buffers as the line and the setup say, and the store that `hex` spells.
+fn ask(state: State, image: &mut [u8], line: &[u8], hex: &[u8]) -> State
     requires { ⌜ length (now image) ≡ 4096 ⌝ }
 {
-    let mut store = [0u8; 8192];
-    let n = text::unhex(text::value(line, b" store="), &mut store);
-    let held = buffer::front(&store, n);
+    let mut bytes = [0u8; 8192];
+    let n = text::unhex(hex, &mut bytes);
+    let store = buffer::front(&bytes, n);
     let mut out = [0u8; 1280];
     let len = room(line);
     let size = image_room(state);
-    lend(state, &mut image[..size], &mut out[..len], held, line)
+    lend(state, &mut image[..size], &mut out[..len], store, line)
+}
+
+fn show_image(state: State, image: &[u8]) -> State {
+    show::image(state);
+    show::sum(buffer::front(image, image_room(state)));
+    state
 }
 
 // A call by its name; a setup begins a life, over an image buffer of zeros. Other lines are no calls.
-fn act(state: State, image: &mut [u8], line: &[u8]) -> State
+fn act(state: State, image: &mut [u8], line: &[u8], hex: &[u8]) -> State
     requires { ⌜ length (now image) ≡ 4096 ⌝ }
 {
     if text::stands(line, 0, b"setup ") {
@@ -171,14 +173,17 @@ fn act(state: State, image: &mut [u8], line: &[u8]) -> State
     if text::stands(line, 0, b"boot") {
         return agent::boot(state);
     }
-    ask(state, image, line)
+    if text::stands(line, 0, b"image") {
+        return show_image(state, image);
+    }
+    ask(state, image, line, hex)
 }
 
-fn play_line(state: State, image: &mut [u8], line: &[u8]) -> State
+fn play_line(state: State, image: &mut [u8], line: &[u8], hex: &[u8]) -> State
     requires { ⌜ length (now image) ≡ 4096 ⌝ }
 {
     lines::word(line);
-    let next = act(state, image, line);
+    let next = act(state, image, line, hex);
     lines::word(b"\n");
     next
 }
@@ -187,16 +192,23 @@ fn play(s: &[u8]) {
     let mut image = [0u8; 4096];
     let none = made(b"");
     let mut state = none.state;
+    let mut held = Line { start: 0, end: 0 };
     let mut at = 0;
     while at < s.len() {
-        let next = text::next_line(s, at);
-        state = play_line(state, &mut image, text::trimmed(buffer::part(s, at, next)));
-        at = next;
+        let line = text::line_at(s, at);
+        held = text::held(s, held, line);
+        state = play_line(
+            state,
+            &mut image,
+            text::of(s, line),
+            text::store_of(s, held, line),
+        );
+        at = line.end;
     }
 }
 
 fn main() {
-    let mut space = [0u8; 65536];
+    let mut space = [0u8; 524288];
     let n = io::read_full(STDIN_FILENO, &mut space);
     play(buffer::front(&space, n));
 }

@@ -3,23 +3,32 @@ use decimal::Id;
 ghost use Prim.Native.Nat.{_≤_, _<_};
 ghost use lib.ListN.{length};
 
-// Where the next line begins: behind the line feed, or at the text's end.
-pub(crate) fn next_line(s: &[u8], at: usize) -> usize
+// Where a line stands in the text: from its begin to behind its line feed.
+pub struct Line {
+    pub start: usize,
+    pub end: usize,
+}
+
+// The line that begins at `at`.
+pub(crate) fn line_at(s: &[u8], at: usize) -> Line
     requires { ⌜ at < length (now s) ⌝ }
-    ensures { λ r. ⌜ (at < r) × (r ≤ length (now (s .entry))) ⌝ }
+    ensures { λ r. ⌜ (at < r .end) × (r .end ≤ length (now (s .entry))) ⌝ }
 {
     let mut i = at;
     while i < s.len() {
         if s[i] == b'\n' {
-            return i + 1;
+            return Line {
+                start: at,
+                end: i + 1,
+            };
         }
         i += 1;
     }
-    i
+    Line { start: at, end: i }
 }
 
 // A line without its line feed.
-pub fn trimmed(line: &[u8]) -> &[u8] {
+fn trimmed(line: &[u8]) -> &[u8] {
     let n = line.len();
     if n == 0 {
         return line;
@@ -28,6 +37,11 @@ pub fn trimmed(line: &[u8]) -> &[u8] {
         return &line[..n - 1];
     }
     line
+}
+
+// A line's letters.
+pub fn of(s: &[u8], line: Line) -> &[u8] {
+    trimmed(buffer::part(s, line.start, line.end))
 }
 
 // Whether `word` stands at `at`.
@@ -115,4 +129,21 @@ pub fn unhex(s: &[u8], out: &mut [u8]) -> usize {
         n += 1;
     }
     n
+}
+
+// The line that gives the store held, behind the line `next`.
+pub fn held(s: &[u8], before: Line, next: Line) -> Line {
+    if stands(s, next.start, b"store ") {
+        return next;
+    }
+    before
+}
+
+// A line's store in hex: its own, or the one held.
+pub fn store_of(s: &[u8], held: Line, line: Line) -> &[u8] {
+    let own = value(of(s, line), b" store=");
+    if buffer::same(own, b"held") {
+        return value(of(s, held), b"store ");
+    }
+    own
 }

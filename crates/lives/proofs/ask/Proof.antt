@@ -6,12 +6,6 @@ use borrow.Author.Needs.{needs}
 use Rattle.lives.proofs.ask.Statement.{statement}
 use Rattle.lives.proofs.ask.Tie as tie
 
-slice-aggregate-value : tie.Need-slice-aggregate-value
-slice-aggregate-value c = search needs
-
-value-requires : tie.Need-value-requires
-value-requires c κs = search needs
-
 slice-aggregate-unhex : tie.Need-slice-aggregate-unhex
 slice-aggregate-unhex c = search needs
 
@@ -34,7 +28,7 @@ slice-relend-prefix-lend : tie.Need-slice-relend-prefix-lend
 slice-relend-prefix-lend c = search needs
 
 slice-aggregate-lend : tie.Need-slice-aggregate-lend
-slice-aggregate-lend c = let k = c .before .image-room .ensures in let p = c .before .before .before .before .before .before .before .before .before .before .before .before .pre in sym (length-take-le _ _ (omega arith))
+slice-aggregate-lend c = let k = c .before .image-room .ensures in let p = c .before .before .before .before .before .before .before .before .before .before .before .pre in sym (length-take-le _ _ (omega arith))
 
 array-borrow-prefix-out : tie.Need-array-borrow-prefix-out
 array-borrow-prefix-out c = search needs
@@ -55,8 +49,6 @@ pub ask-spec : {M : Type 1} → statement M
 ask-spec =
     tie.close
     (tie.spec
-    slice-aggregate-value
-    value-requires
     slice-aggregate-unhex
     unhex-requires
     slice-aggregate-front

@@ -7,10 +7,10 @@ use Rattle.lives.proofs.play.Statement.{statement}
 use Rattle.lives.proofs.play.Tie as tie
 
 abbrev Inv-loop : tie.InvT-loop
-Inv-loop s image₀ state₀ at₀ image state at = length image ≡ 4096
+Inv-loop s image₀ state₀ held₀ at₀ image state held at = length image ≡ 4096
 
 abbrev μ-loop : tie.MeasureT-loop
-μ-loop s image₀ state₀ at₀ image state at = length s - at
+μ-loop s image₀ state₀ held₀ at₀ image state held at = length s - at
 
 slice-aggregate-made : tie.Need-slice-aggregate-made Inv-loop μ-loop
 slice-aggregate-made c = search needs
@@ -21,17 +21,20 @@ made-requires c κs = search needs
 loop-holds : tie.Need-loop-holds Inv-loop μ-loop
 loop-holds c = search needs
 
-next-line-requires : tie.Need-next-line-requires Inv-loop μ-loop
-next-line-requires c κs = search needs
+line-at-requires : tie.Need-line-at-requires Inv-loop μ-loop
+line-at-requires c κs = search needs
+
+held-requires : tie.Need-held-requires Inv-loop μ-loop
+held-requires c κs = search needs
 
 slice-aggregate-play-line : tie.Need-slice-aggregate-play-line Inv-loop μ-loop
 slice-aggregate-play-line c = search needs
 
-part-requires : tie.Need-part-requires Inv-loop μ-loop
-part-requires c κs = search needs
+of-requires : tie.Need-of-requires Inv-loop μ-loop
+of-requires c κs = search needs
 
-trimmed-requires : tie.Need-trimmed-requires Inv-loop μ-loop
-trimmed-requires c κs = search needs
+store-of-requires : tie.Need-store-of-requires Inv-loop μ-loop
+store-of-requires c κs = search needs
 
 play-line-requires : tie.Need-play-line-requires Inv-loop μ-loop
 play-line-requires c κs = search needs
@@ -54,10 +57,11 @@ play-spec =
     slice-aggregate-made
     made-requires
     loop-holds
-    next-line-requires
+    line-at-requires
+    held-requires
     slice-aggregate-play-line
-    part-requires
-    trimmed-requires
+    of-requires
+    store-of-requires
     play-line-requires
     loop-less
     loop-again
