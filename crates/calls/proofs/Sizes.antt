@@ -19,7 +19,7 @@ use Rattle.csmp.specs.Values.{atMost}
 use Rattle.decode.specs.Read.{redirectOf}
 use Rattle.decode_image.specs.Read.{transferOf, loadOf, hashOf}
 use Rattle.csmp.specs.declared.Image.{Image}
-use Rattle.decode.specs.declared.Transfer.{Transfer}
+use Rattle.decode_image.specs.declared.Transfer.{Transfer}
 use Rattle.firmware.specs.Answer.{isOpen}
 use Rattle.loading.specs.Load.{withPending, isPending, openFault, sourceFault, pendingFault, loads, loadsAt, loadAnswered, cancels, cancelAnswered, backs, backupAnswered, booted}
 use Rattle.opening.specs.Open.{sizedTexts, isGiven, numberOr0, isWhole, isOurs, faultOf, openedBy, replaced, opens, openIf, transferAnswered}

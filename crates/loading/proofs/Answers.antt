@@ -4,9 +4,9 @@ use mathlib.Core.Path.{_≡_}
 use mathlib.Core.List.{List}
 use mathlib.Core.Bool.{true, false}
 use borrow.Author.Tests.{eq-eqb, ne-eqb}
-use Rattle.decode.specs.Read.{loadOf, hashOf}
-use Rattle.decode.specs.declared.ImageHash.{ImageHash}
-use Rattle.decode.specs.declared.Load.{Load}
+use Rattle.decode_image.specs.Read.{loadOf, hashOf}
+use Rattle.decode_image.specs.declared.ImageHash.{ImageHash}
+use Rattle.decode_image.specs.declared.Load.{Load}
 use Rattle.schedule.specs.declared.Moment.the-variants.{At as On, Absent as Never}
 use Rattle.schedule.specs.declared.Point.{Point}
 use Rattle.state.specs.Setup.{noPending}

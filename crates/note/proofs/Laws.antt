@@ -5,15 +5,16 @@ use mathlib.Core.List.{List}
 use mathlib.Core.Bool.{true, false}
 use borrow.Author.Tests.{le-leb, lt-leb, ne-eqb}
 use lib.ListN.{length, take, drop}
-use Rattle.decode.specs.Read.{sessionOf, reportOf, groupOf}
+use Rattle.decode.specs.Read.{sessionOf, groupOf}
+use Rattle.decode_report.specs.Report.{reportOf}
 use Rattle.decode.specs.declared.Group.{Group}
-use Rattle.decode.specs.declared.Report.{Report}
+use Rattle.decode_report.specs.declared.Report.{Report}
 use Rattle.decode.specs.declared.Session.{Session}
 use Rattle.csmp.specs.declared.SessionId.{SessionId}
-use Rattle.protobuf.specs.Find.{bytesIn}
+use Rattle.find.specs.Find.{bytesIn}
 use Rattle.protobuf.specs.declared.Bytes.the-variants.{At, Absent as NoBytes}
 use Rattle.protobuf.specs.declared.Number.the-variants.{Given, Absent}
-use Rattle.protobuf.proofs.FindLaws.{bytes-within}
+use Rattle.find.proofs.FindLaws.{bytes-within}
 use Rattle.schedule.specs.declared.Point.{Point}
 use Rattle.state.specs.declared.Assigned.{Assigned}
 use Rattle.state.specs.declared.Device.{Device}

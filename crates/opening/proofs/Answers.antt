@@ -5,10 +5,10 @@ use mathlib.Core.List.{List}
 use mathlib.Core.Bool.{true, false}
 use borrow.Author.Tests.{eq-eqb, ne-eqb}
 use lib.ListN.{take}
-use Rattle.decode.specs.Read.{transferOf}
+use Rattle.decode_image.specs.Read.{transferOf}
 use Rattle.csmp.specs.declared.Image.{Image}
-use Rattle.decode.specs.declared.Transfer.{Transfer}
-use Rattle.protobuf.specs.Find.{isText}
+use Rattle.decode_image.specs.declared.Transfer.{Transfer}
+use Rattle.find.specs.Find.{isText}
 use Rattle.protobuf.specs.declared.Number.the-variants.{Given, Absent as NoNumber}
 use Rattle.state.specs.declared.Device.{Device}
 use Rattle.state.specs.declared.Images.{Images}

@@ -1,6 +1,6 @@
 // TransferRequest, record 65: the first answer that applies.
 use csmp::Image;
-use decode::Transfer;
+use decode_image::Transfer;
 use firmware::Answered;
 use protobuf::Number;
 use state::Device;

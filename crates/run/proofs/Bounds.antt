@@ -13,8 +13,9 @@ use Rattle.buffer.specs.Same.{sameBytes}
 use Rattle.decode_image.specs.Read.{loadOf, hashOf, transferOf}
 use Rattle.csmp.specs.Values.{momentOf, momentNumber}
 use Rattle.csmp.specs.declared.Image.{Image}
-use Rattle.decode.specs.declared.Transfer.{Transfer}
-use Rattle.encode.proofs.WriteLaws.{timeField, word-most, response-record-most}
+use Rattle.decode_image.specs.declared.Transfer.{Transfer}
+use Rattle.encode_image.proofs.Sizes.{timeField, response-record-most}
+use Rattle.protobuf.proofs.SizeLaws.{word-most}
 use Rattle.firmware.specs.Answer.{isOpen}
 use Rattle.loading.specs.Load.{isBackup, isPending, openFault, sourceFault, pendingFault, loads, loadsAt, loadAnswered, cancels, cancelAnswered, backs, backupAnswered}
 use Rattle.opening.specs.Open.{isWhole, isOurs, faultOf, replaced, opens, openIf, transferAnswered}

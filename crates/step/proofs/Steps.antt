@@ -4,11 +4,11 @@ use mathlib.Core.Path.{_≡_, refl}
 use mathlib.Core.List.{List, []}
 use mathlib.Core.Bool.{true, false}
 use borrow.Author.Tests.{eq-eqb, ne-eqb}
-use Rattle.decode.specs.Read.{loadOf}
-use Rattle.encode.specs.Write.{responseRecord}
+use Rattle.decode_image.specs.Read.{loadOf}
+use Rattle.encode_image.specs.Write.{responseRecord}
 use Rattle.csmp.specs.declared.Hash.{Hash}
 use Rattle.csmp.specs.declared.Image.{Image}
-use Rattle.decode.specs.declared.Load.{Load}
+use Rattle.decode_image.specs.declared.Load.{Load}
 use Rattle.loading.specs.Load.{loadAnswered, cancelAnswered, backupAnswered}
 use Rattle.opening.specs.Open.{transferAnswered}
 use Rattle.firmware.specs.Place.{echoed}

@@ -5,8 +5,8 @@ use mathlib.Core.List.{List, []}
 use lib.Dec.{eqb}
 use Rattle.buffer.specs.Pick.{pick}
 use Rattle.buffer.specs.Put.{Put}
-use Rattle.decode.specs.Read.{loadOf}
-use Rattle.encode.specs.Write.{responseRecord}
+use Rattle.decode_image.specs.Read.{loadOf}
+use Rattle.encode_image.specs.Write.{responseRecord}
 use Rattle.csmp.specs.declared.Hash.{Hash}
 use Rattle.loading.specs.Load.{loadAnswered, cancelAnswered, backupAnswered}
 use Rattle.opening.specs.Open.{transferAnswered}

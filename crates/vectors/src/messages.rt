@@ -93,7 +93,7 @@ fn session(v: &[u8]) {
 }
 
 fn report(v: &[u8]) {
-    let m = decode::read_report(v);
+    let m = decode_report::read_report(v);
     readable(m.readable);
     let every = m.interval;
     interval(every);
@@ -115,7 +115,7 @@ fn group(v: &[u8]) {
 }
 
 fn transfer(v: &[u8]) {
-    let m = decode::read_transfer(v);
+    let m = decode_image::read_transfer(v);
     readable(m.readable);
     let hw_id = m.hw_id;
     bytes(v, hw_id);
@@ -134,7 +134,7 @@ fn transfer(v: &[u8]) {
 }
 
 fn block(v: &[u8]) {
-    let m = decode::read_block(v);
+    let m = decode_image::read_block(v);
     readable(m.readable);
     let file_hash = m.hash;
     bytes(v, file_hash);
@@ -145,7 +145,7 @@ fn block(v: &[u8]) {
 }
 
 fn load(v: &[u8]) {
-    let m = decode::read_load(v);
+    let m = decode_image::read_load(v);
     readable(m.readable);
     let file_hash = m.hash;
     bytes(v, file_hash);
@@ -154,7 +154,7 @@ fn load(v: &[u8]) {
 }
 
 fn hash(v: &[u8]) {
-    let m = decode::read_hash(v);
+    let m = decode_image::read_hash(v);
     readable(m.readable);
     let file_hash = m.hash;
     bytes(v, file_hash);
