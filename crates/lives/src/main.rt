@@ -125,7 +125,7 @@ fn image_room(state: State) -> usize
     n
 }
 
-// A call that is lent an output and a store.
+// A call that is lent buffers; and what the image buffer holds.
 fn lend(state: State, image: &mut [u8], out: &mut [u8], store: &[u8], line: &[u8]) -> State {
     if text::stands(line, 0, b"datagram ") {
         return datagram(state, image, out, store, line);
@@ -135,6 +135,9 @@ fn lend(state: State, image: &mut [u8], out: &mut [u8], store: &[u8], line: &[u8
     }
     if text::stands(line, 0, b"report ") {
         return report(state, out, store, line);
+    }
+    if text::stands(line, 0, b"image") {
+        show::image(state, image);
     }
     state
 }
@@ -152,12 +155,6 @@ fn ask(state: State, image: &mut [u8], line: &[u8], hex: &[u8]) -> State
     lend(state, &mut image[..size], &mut out[..len], store, line)
 }
 
-fn show_image(state: State, image: &[u8]) -> State {
-    show::image(state);
-    show::sum(buffer::front(image, image_room(state)));
-    state
-}
-
 // A call by its name; a setup begins a life, over an image buffer of zeros. Other lines are no calls.
 fn act(state: State, image: &mut [u8], line: &[u8], hex: &[u8]) -> State
     requires { ⌜ length (now image) ≡ 4096 ⌝ }
@@ -172,9 +169,6 @@ fn act(state: State, image: &mut [u8], line: &[u8], hex: &[u8]) -> State
     }
     if text::stands(line, 0, b"boot") {
         return agent::boot(state);
-    }
-    if text::stands(line, 0, b"image") {
-        return show_image(state, image);
     }
     ask(state, image, line, hex)
 }

@@ -29,24 +29,8 @@ fn shown(blocks: u64) -> usize {
     ((blocks + 7) / 8) as usize
 }
 
-fn one(b: bool) -> u64 {
-    if b {
-        return 1;
-    }
-    0
-}
-
 fn bitmap(map: [u8; 128], blocks: u64) {
     bytes(b" bitmap=", &map, shown(blocks));
-}
-
-// The open image: its blocks, the front of its bitmap, and whether none is missing.
-pub fn image(state: State) {
-    let n = blocks(state);
-    number(b" -> blocks=", n);
-    let map = state.images.image.bitmap;
-    bitmap(map, n);
-    number(b" complete=", one(agent::is_complete(state)));
 }
 
 // Bytes as one number, high byte first, modulo 65,521.
@@ -60,6 +44,12 @@ fn remainder(s: &[u8]) -> u64 {
     sum
 }
 
-pub fn sum(s: &[u8]) {
-    number(b" sum=", remainder(s));
+// The open image: its blocks, the front of its bitmap, and whether none is missing; and the image buffer as one number.
+pub fn image(state: State, buffer: &[u8]) {
+    let n = blocks(state);
+    number(b" -> blocks=", n);
+    let map = state.images.image.bitmap;
+    bitmap(map, n);
+    number(b" complete=", agent::is_complete(state) as u64);
+    number(b" sum=", remainder(buffer));
 }

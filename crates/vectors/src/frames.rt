@@ -10,7 +10,6 @@ use coap::CoapOption;
 use coap::Datagram;
 use coap::Frame;
 use coap::Next;
-use decimal::Ids;
 use request::Path;
 use request::Query;
 
@@ -58,13 +57,6 @@ fn print_path(path: Path) {
     }
 }
 
-fn print_ids(ids: Ids) {
-    if ids.count == 0 {
-        lines::word(b" bad");
-    }
-    say::ids(ids);
-}
-
 fn print_query(s: &[u8], query: Query) {
     lines::word(b" query");
     match query {
@@ -72,7 +64,11 @@ fn print_query(s: &[u8], query: Query) {
             lines::word(b" none");
         }
         Query::One(start, end) => {
-            print_ids(request::asked_ids(buffer::part(s, start, end)));
+            let ids = request::asked_ids(buffer::part(s, start, end));
+            if ids.count == 0 {
+                lines::word(b" bad");
+            }
+            say::ids(ids);
         }
         Query::Several => {
             lines::word(b" several");
@@ -91,14 +87,6 @@ fn print_request(s: &[u8], from: usize) {
     lines::word(b"\n");
 }
 
-// A request has a code of 0.01 to 0.31.
-fn is_request(code: u8) -> bool {
-    if code == 0 {
-        return false;
-    }
-    code < 32
-}
-
 fn print_frame(s: &[u8], f: Frame) {
     lines::word(b"frame");
     say::number(f.kind as u64);
@@ -110,8 +98,9 @@ fn print_frame(s: &[u8], f: Frame) {
     }
     lines::word(b"\n");
     print_options(s, f.options);
-    if is_request(f.code) {
-        print_request(s, f.options);
+    match f.code {
+        1..=31 => print_request(s, f.options),
+        _ => {}
     }
 }
 

@@ -1,5 +1,4 @@
 // Records that the writers make, each printed in hex; protoc makes the same.
-use crate::messages;
 use csmp::Hash;
 use csmp::Image;
 use csmp::Index;
@@ -15,23 +14,19 @@ use schedule::Point;
 // A written record: the first n bytes, or `full` where it did not fit.
 fn made(out: &[u8], n: usize) {
     if n <= out.len() {
-        messages::hex(&out[..n]);
+        lines::hex(&out[..n]);
     } else {
         lines::word(b"full");
     }
     lines::word(b"\n");
 }
 
-fn time() {
+fn time_and_group() {
     let mut out = [0u8; 1024];
     let n = encode::put_time(&mut out, 0, Point(1700000000));
     made(&out, n);
-}
-
-fn group() {
-    let mut out = [0u8; 1024];
-    let n = encode::put_group(&mut out, 0, 1, 300);
-    made(&out, n);
+    let m = encode::put_group(&mut out, 0, 1, 300);
+    made(&out, m);
 }
 
 // A record that does not fit is not written.
@@ -55,21 +50,23 @@ fn listed(a: u32, b: u32) -> Ids {
     decimal::push(one, b)
 }
 
-fn report() {
+// A report, and one with nothing to report.
+fn reports() {
     let mut out = [0u8; 1024];
     let every = Interval::Every(Length(60));
     let beat = Interval::Every(Length(0));
-    let first = listed(58, 4294967295);
-    let second = listed(0, 22);
-    let n = encode::put_report(&mut out, 0, every, first, beat, second);
+    let n = encode::put_report(
+        &mut out,
+        0,
+        every,
+        listed(58, 4294967295),
+        beat,
+        listed(0, 22),
+    );
     made(&out, n);
-}
-
-fn nothing_to_report() {
-    let mut out = [0u8; 1024];
     let none = decimal::no_ids();
-    let n = encode::put_report(&mut out, 0, Interval::Absent, none, Interval::Absent, none);
-    made(&out, n);
+    let m = encode::put_report(&mut out, 0, Interval::Absent, none, Interval::Absent, none);
+    made(&out, m);
 }
 
 fn index() {
@@ -98,16 +95,12 @@ fn responses() {
     made(&out, n);
 }
 
-fn running() {
+fn running_and_backup() {
     let mut out = [0u8; 1024];
     let n = encode_image::put_running(&mut out, 0, [0; 32]);
     made(&out, n);
-}
-
-fn backup() {
-    let mut out = [0u8; 1024];
-    let n = encode_image::put_backup(&mut out, 0, [9; 32], Moment::At(Point(1700000000)));
-    made(&out, n);
+    let m = encode_image::put_backup(&mut out, 0, [9; 32], Moment::At(Point(1700000000)));
+    made(&out, m);
 }
 
 fn open() {
@@ -138,15 +131,12 @@ fn open() {
 }
 
 pub fn all() {
-    time();
-    group();
+    time_and_group();
     cut();
     session();
-    report();
-    nothing_to_report();
+    reports();
     index();
     responses();
-    running();
-    backup();
+    running_and_backup();
     open();
 }

@@ -8,15 +8,6 @@ use protobuf::Number;
 use schedule::Interval;
 use schedule::Moment;
 
-// Bytes in hex; absent ones have a dash, so none are called empty.
-pub fn hex(s: &[u8]) {
-    if s.len() == 0 {
-        lines::word(b"empty");
-        return;
-    }
-    lines::hex(s);
-}
-
 fn readable(b: bool) {
     if b {
         lines::word(b"readable");
@@ -25,13 +16,17 @@ fn readable(b: bool) {
     }
 }
 
+// Bytes in hex; absent ones have a dash, so none are called empty.
 fn bytes(v: &[u8], place: Bytes) {
-    lines::word(b" ");
     let Bytes::At(start, end) = place else {
-        lines::word(b"-");
+        lines::word(b" -");
         return;
     };
-    hex(buffer::part(v, start, end));
+    if start == end {
+        lines::word(b" empty");
+        return;
+    }
+    say::bytes(buffer::part(v, start, end));
 }
 
 fn given(n: Number) {
