@@ -8,7 +8,8 @@ use native.Mathlib.Omega.{arith}
 use borrow.Author.Tests.{leb-true, leb-false}
 use lib.Dec.{eqb, leb}
 use lib.ListN.{length, length-take}
-use Rattle.note.specs.Note.{nothingLearnt, marked, redirectNoted, sessionIdOf, inSession, withSession, sessionNoted, withReport, reportNoted, pushed, grouped, withGroup, groupNoted, validityNoted, signatureNoted, noted}
+use Rattle.assign.specs.Assign.{sessionIdOf, inSession, withSession, withReport}
+use Rattle.note.specs.Note.{nothingLearnt, marked, redirectNoted, sessionNoted, reportNoted, pushed, grouped, withGroup, groupNoted, validityNoted, signatureNoted, noted}
 use Rattle.learn.specs.Learn.{learntOf, learntFrom}
 use Rattle.ack.specs.Take.{isAwaited, isTakable, regrouped, acceptedBy, takenBy, acknowledged}
 use Rattle.note.specs.declared.Learnt.{Learnt}

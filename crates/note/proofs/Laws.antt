@@ -1,24 +1,20 @@
 -- Laws of one record of an acknowledgement: what each test of the code says of the definitions.
-use Prim.Native.Nat.{ℕ, _-_, _≤_, _<_}
+use Prim.Native.Nat.{ℕ, _≤_, _<_}
 use mathlib.Core.Path.{_≡_}
 use mathlib.Core.List.{List}
-use mathlib.Core.Bool.{true, false}
+use mathlib.Core.Bool.{false}
 use borrow.Author.Tests.{le-leb, lt-leb, ne-eqb}
-use lib.ListN.{length, take, drop}
 use Rattle.decode.specs.Read.{sessionOf, groupOf}
 use Rattle.decode_report.specs.Report.{reportOf}
 use Rattle.decode.specs.declared.Group.{Group}
 use Rattle.decode_report.specs.declared.Report.{Report}
 use Rattle.decode.specs.declared.Session.{Session}
-use Rattle.csmp.specs.declared.SessionId.{SessionId}
-use Rattle.find.specs.Find.{bytesIn}
-use Rattle.protobuf.specs.declared.Bytes.the-variants.{At, Absent as NoBytes}
 use Rattle.protobuf.specs.declared.Number.the-variants.{Given, Absent}
-use Rattle.find.proofs.FindLaws.{bytes-within}
 use Rattle.schedule.specs.declared.Point.{Point}
 use Rattle.state.specs.declared.Assigned.{Assigned}
 use Rattle.state.specs.declared.Device.{Device}
-use Rattle.note.specs.Note.{marked, withAssigned, redirectNoted, sessionIdOf, withSession, sessionNoted, withReport, reportNoted, withPair, pushed, withGroup, groupNoted, validityNoted, signatureNoted, noted}
+use Rattle.assign.specs.Assign.{withSession, withReport}
+use Rattle.note.specs.Note.{marked, withAssigned, redirectNoted, sessionNoted, reportNoted, withPair, pushed, withGroup, groupNoted, validityNoted, signatureNoted, noted}
 use Rattle.note.specs.declared.Learnt.{Learnt}
 
 -- one group more
@@ -43,32 +39,6 @@ module _ (l : Learnt) (m : Group) where
   pub group-whole : (kind id : ℕ) → m .kind ≡ Given kind → m .id ≡ Given id → withGroup l m ≡ pushed l kind id
   unfolding withGroup
   group-whole kind id h k = rw (h, k)
-
--- a session: its id lies in the value
-module _ (a : Assigned) (v : List ℕ) (m : Session) (e : m ≡ sessionOf v) where
-  pub id-inside : (start stop : ℕ) → m .id ≡ At start stop → (start ≤ stop) × (stop ≤ length v)
-  unfolding sessionOf
-  id-inside start stop h =
-      let k : bytesIn v 1 ≡ At start stop = rw e at h in
-      bytes-within v 1 start stop k
-
-  pub session-none : m .id ≡ NoBytes → withSession a v ≡ a
-  unfolding withSession
-  session-none h = rw (rw e at h)
-
-  pub session-some : (start stop : ℕ) → m .id ≡ At start stop → (s : SessionId) → s ≡ sessionIdOf (take (stop - start) (drop start v))
-      → withSession a v ≡ record {
-        groups = a .groups;
-        «in_session» = true;
-        session = s;
-        reporting = a .reporting;
-        interval = a .interval;
-        ids = a .ids;
-        heartbeat = a .heartbeat;
-        «heartbeat_ids» = a .«heartbeat_ids»;
-      }
-  unfolding withSession
-  session-some start stop h s k = rw (rw e at h, k)
 
 -- what each record adds
 module _ (l : Learnt) (v : List ℕ) where

@@ -2,18 +2,14 @@
 use Prim.Native.Nat.{ℕ, _+_}
 use mathlib.Core.List.{List}
 use mathlib.Core.Bool.{Bool, true, false, _&&_, _||_}
-use mathlib.Core.Option.{Option, none, some}
 use lib.Dec.{eqb, leb}
-use lib.ListN.{length, replicate, set}
-use lib.Seq.{sets}
+use lib.ListN.{set}
 use Rattle.buffer.specs.Pick.{pick}
 use Rattle.nesting.specs.Readable.{plain}
 use Rattle.decode.specs.Read.{redirectOf, sessionOf, groupOf, validityOf}
 use Rattle.decode_report.specs.Report.{reportOf}
 use Rattle.decode.specs.declared.Group.{Group}
-use Rattle.csmp.specs.declared.SessionId.{SessionId}
 use Rattle.post.specs.Value.{isExpired}
-use Rattle.protobuf.specs.Given.{bytesGiven}
 use Rattle.protobuf.specs.declared.Number.{Number}
 use Rattle.protobuf.specs.declared.Number.the-variants.{Given, Absent}
 use Rattle.registration.specs.Redirect.{followed, urlIn, redirected}
@@ -22,6 +18,7 @@ use Rattle.state.specs.Setup.{noGroups}
 use Rattle.state.specs.declared.Assigned.{Assigned}
 use Rattle.state.specs.declared.Device.{Device}
 use Rattle.state.specs.declared.Registration.{Registration}
+use Rattle.assign.specs.Assign.{withSession, withReport}
 use Rattle.note.specs.declared.Learnt.{Learnt}
 
 -- before the first record
@@ -75,44 +72,11 @@ redirectNoted d l v =
       groups = l .groups;
     }
 
--- 7: of several sessions the last not ignored counts; ignored is a session without id
-unfoldable pub sessionIdOf : List ℕ → SessionId
-sessionIdOf s = record { bytes = sets (replicate 64 0) 0 s; len = length s }
-
-abbrev pub inSession : Assigned → Option (List ℕ) → Assigned
-inSession a none = a
-inSession a (some id) =
-    record {
-      groups = a .groups;
-      «in_session» = true;
-      session = sessionIdOf id;
-      reporting = a .reporting;
-      interval = a .interval;
-      ids = a .ids;
-      heartbeat = a .heartbeat;
-      «heartbeat_ids» = a .«heartbeat_ids»;
-    }
-
-unfoldable pub withSession : Assigned → List ℕ → Assigned
-withSession a v = inSession a (bytesGiven v (sessionOf v .id))
-
+-- 7: of several sessions the last not ignored counts
 unfoldable pub sessionNoted : Learnt → List ℕ → Learnt
 sessionNoted l v = marked (withAssigned l (withSession (l .assigned) v)) (sessionOf v .readable)
 
 -- 13: of several reports the last counts
-unfoldable pub withReport : Assigned → List ℕ → Assigned
-withReport a v =
-    record {
-      groups = a .groups;
-      «in_session» = a .«in_session»;
-      session = a .session;
-      reporting = true;
-      interval = reportOf v .interval;
-      ids = reportOf v .ids;
-      heartbeat = reportOf v .heartbeat;
-      «heartbeat_ids» = reportOf v .«heartbeat_ids»;
-    }
-
 unfoldable pub reportNoted : Learnt → List ℕ → Learnt
 reportNoted l v = marked (withAssigned l (withReport (l .assigned) v)) (reportOf v .readable)
 

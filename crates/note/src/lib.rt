@@ -1,7 +1,5 @@
 // One record of an acknowledgement.
-use csmp::SessionId;
 use decode::Group;
-use protobuf::Bytes;
 use protobuf::Number;
 use schedule::Point;
 use state::Assigned;
@@ -10,7 +8,7 @@ use state::Groups;
 use state::Pair;
 use state::Registration;
 ghost use mathlib.Core.Path.{_≡_};
-ghost use Rattle.note.specs.Note.{nothingLearnt, marked, sessionIdOf, withSession, withReport, pushed, withGroup, redirectNoted, sessionNoted, reportNoted, groupNoted, validityNoted, signatureNoted, noted};
+ghost use Rattle.note.specs.Note.{nothingLearnt, marked, pushed, withGroup, redirectNoted, sessionNoted, reportNoted, groupNoted, validityNoted, signatureNoted, noted};
 
 // What a walk over an acknowledgement has learnt: whether it can be read, is signed, is not valid now; whether a redirect was followed and
 // registration after it; what was assigned; the complete GroupAssigns.
@@ -61,71 +59,21 @@ fn note_redirect(device: Device, learnt: Learnt, v: &[u8]) -> Learnt
     next
 }
 
-fn session_id_of(s: &[u8]) -> SessionId
-    ensures { λ r. ⌜ r ≡ sessionIdOf (now (s .entry)) ⌝ }
-{
-    let mut bytes = [0u8; 64];
-    buffer::copy(&mut bytes, s);
-    SessionId {
-        bytes,
-        len: s.len(),
-    }
-}
-
-// A session with an id; one without is ignored.
-fn with_session(assigned: Assigned, v: &[u8]) -> Assigned
-    ensures { λ r. ⌜ r ≡ withSession assigned (now (v .entry)) ⌝ }
-{
-    let m = decode::read_session(v);
-    let place = m.id;
-    let Bytes::At(start, end) = place else {
-        return assigned;
-    };
-    let session = session_id_of(&v[start..end]);
-    let mut next = assigned;
-    next.in_session = true;
-    next.session = session;
-    next
-}
-
 fn note_session(learnt: Learnt, v: &[u8]) -> Learnt
     ensures { λ r. ⌜ r ≡ sessionNoted learnt (now (v .entry)) ⌝ }
 {
     let old = learnt.assigned;
-    let assigned = with_session(old, v);
+    let assigned = assign::with_session(old, v);
     let mut next = mark(learnt, decode::read_session(v).readable);
     next.assigned = assigned;
     next
-}
-
-// A report, as it is given.
-fn with_report(assigned: Assigned, v: &[u8]) -> Assigned
-    ensures { λ r. ⌜ r ≡ withReport assigned (now (v .entry)) ⌝ }
-{
-    let m = decode_report::read_report(v);
-    let groups = assigned.groups;
-    let session = assigned.session;
-    let interval = m.interval;
-    let ids = m.ids;
-    let heartbeat = m.heartbeat;
-    let heartbeat_ids = m.heartbeat_ids;
-    Assigned {
-        groups,
-        in_session: assigned.in_session,
-        session,
-        reporting: true,
-        interval,
-        ids,
-        heartbeat,
-        heartbeat_ids,
-    }
 }
 
 fn note_report(learnt: Learnt, v: &[u8]) -> Learnt
     ensures { λ r. ⌜ r ≡ reportNoted learnt (now (v .entry)) ⌝ }
 {
     let old = learnt.assigned;
-    let assigned = with_report(old, v);
+    let assigned = assign::with_report(old, v);
     let mut next = mark(learnt, decode_report::read_report(v).readable);
     next.assigned = assigned;
     next

@@ -34,7 +34,8 @@ use Rattle.state.specs.declared.Device.{Device}
 use Rattle.state.specs.declared.Images.{Images}
 use Rattle.transfer.specs.Bitmap.{complete}
 use Rattle.transfer.specs.Blocks.{blocks}
-use Rattle.step.specs.Step.{World, loadTime, response}
+use Rattle.answer.specs.Answer.{loadTime}
+use Rattle.step.specs.Step.{World, response}
 
 -- a time that was read
 time-never : length (timeField Never) ≤ 6

@@ -23,7 +23,7 @@ use Rattle.run.specs.Post.{postedAs, judgedAt, posted, PostedBy}
 use Rattle.step.specs.Step.{World, worldOf}
 use Rattle.run.specs.Run.{RanBy}
 use Rattle.run.specs.declared.Posted.{Posted}
-use Rattle.step.specs.declared.Ran.{Ran}
+use Rattle.answer.specs.declared.Ran.{Ran}
 
 -- what is seen of records
 module _ (g : Groups) (time : Point) where

@@ -15,7 +15,7 @@ use Rattle.tlv.specs.declared.Taken.the-variants.{Record as Whole, Unreadable}
 use Rattle.tlv.proofs.Laws.{record-inside, records-end, records-more, records-unreadable}
 use Rattle.step.specs.Step.{World, worldOf, act, response}
 use Rattle.run.specs.Run.{ran, responses, RanBy}
-use Rattle.step.specs.declared.Ran.{Ran}
+use Rattle.answer.specs.declared.Ran.{Ran}
 use Rattle.run.proofs.Bounds.{response-most}
 
 -- the records from a position on

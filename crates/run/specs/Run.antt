@@ -7,7 +7,7 @@ use lib.Seq.{sets}
 use Rattle.state.specs.declared.Device.{Device}
 use Rattle.tlv.specs.Record.{Tlv}
 use Rattle.step.specs.Step.{World, worldOf, act, response}
-use Rattle.step.specs.declared.Ran.{Ran}
+use Rattle.answer.specs.declared.Ran.{Ran}
 
 -- the records run in payload order
 unfoldable pub ran : Device → World → List Tlv → World

@@ -1,9 +1,9 @@
 // A posted payload: it is judged (steps e to i), and its records then run in their order (step j).
+use answer::Ran;
 use post::Judgement;
 use schedule::Point;
 use state::Device;
 use state::State;
-use step::Ran;
 use tlv::Taken;
 ghost use mathlib.Core.Path.{_≡_};
 ghost use Prim.Native.Nat.{_+_, _*_, _≤_};

@@ -5,21 +5,18 @@ use mathlib.Core.List.{List, []}
 use lib.Dec.{eqb}
 use Rattle.buffer.specs.Pick.{pick}
 use Rattle.buffer.specs.Put.{Put}
-use Rattle.decode_image.specs.Read.{loadOf}
 use Rattle.encode_image.specs.Write.{responseRecord}
-use Rattle.csmp.specs.declared.Hash.{Hash}
 use Rattle.loading.specs.Load.{loadAnswered, cancelAnswered, backupAnswered}
 use Rattle.opening.specs.Open.{transferAnswered}
 use Rattle.firmware.specs.Place.{echoed}
-use Rattle.firmware.specs.declared.Answered.{Answered}
 use Rattle.registration.specs.Redirect.{redirected}
-use Rattle.schedule.specs.declared.Moment.{Moment}
 use Rattle.schedule.specs.declared.Moment.the-variants.{Absent as Never}
 use Rattle.state.specs.declared.Device.{Device}
 use Rattle.state.specs.declared.Images.{Images}
 use Rattle.state.specs.declared.Registration.{Registration}
 use Rattle.transfer.specs.Block.{Flash, takeBlock}
-use Rattle.step.specs.declared.Ran.{Ran}
+use Rattle.answer.specs.Answer.{loadTime}
+use Rattle.answer.specs.declared.Ran.{Ran}
 
 -- what records may change
 pub record World : Type 0 where
@@ -63,10 +60,6 @@ act d w k v =
     (pick (eqb k 69) (withImages w (cancelAnswered (w .images) v .images))
     (pick (eqb k 70) (withImages w (backupAnswered (w .images) v .images)) w)))))
 
--- 72 adds the load time on 0
-unfoldable pub loadTime : ℕ → List ℕ → Moment
-loadTime answer v = pick (eqb answer 0) (loadOf v .time) Never
-
 -- the response that it gets: 71 to 74 echo the request's hash, its field 2 in a 65 and its field 1 in the others
 unfoldable pub response : Device → World → ℕ → List ℕ → List ℕ
 response d w k v =
@@ -78,12 +71,6 @@ response d w k v =
 -- the world that a value of the code's and an image buffer are
 abbrev pub worldOf : Ran → List ℕ → World
 worldOf r flash = record { images = r .images; registration = r .registration; flash = flash }
-
--- what a request's answer leaves: its images, and its response appended
-pub record Responded (r : Ran) (a : Answered) (kind : ℕ) (h : Hash) (time : Moment) (out : List ℕ) (next : Ran) (left : List ℕ) : Type 0 where
-  pub images : next .images ≡ a .images
-  pub registration : next .registration ≡ r .registration
-  pub appended : Put out (r .end) (responseRecord kind h (a .answer) time) left (next .end)
 
 -- what no answer leaves: all as it was, and nothing appended
 pub record Passed (r : Ran) (out : List ℕ) (next : Ran) (left : List ℕ) : Type 0 where

@@ -1,10 +1,10 @@
--- `note::with_session` meets its contract: an id, or ignored.
+-- `assign::with_session` meets its contract: an id, or ignored.
 use mathlib.Core.Path.{sym}
 use native.Mathlib.Omega.{arith}
-use Rattle.note.proofs.Laws.{id-inside, session-none, session-some}
+use Rattle.assign.proofs.Laws.{id-inside, session-none, session-some}
 use borrow.Author.Needs.{needs}
-use Rattle.note.proofs.with_session.Statement.{statement}
-use Rattle.note.proofs.with_session.Tie as tie
+use Rattle.assign.proofs.with_session.Statement.{statement}
+use Rattle.assign.proofs.with_session.Tie as tie
 
 read-session-requires : tie.Need-read-session-requires
 read-session-requires c κs = search needs

@@ -1,8 +1,8 @@
--- `note::session_id_of` meets its contract: the bytes are copied to the front of zeros.
-use Rattle.note.specs.Note.{sessionIdOf}
+-- `assign::session_id_of` meets its contract: the bytes are copied to the front of zeros.
+use Rattle.assign.specs.Assign.{sessionIdOf}
 use borrow.Author.Needs.{needs}
-use Rattle.note.proofs.session_id_of.Statement.{statement}
-use Rattle.note.proofs.session_id_of.Tie as tie
+use Rattle.assign.proofs.session_id_of.Statement.{statement}
+use Rattle.assign.proofs.session_id_of.Tie as tie
 
 slice-aggregate-copy : tie.Need-slice-aggregate-copy
 slice-aggregate-copy c = search needs

@@ -1,8 +1,8 @@
--- `step::load_time` meets its contract: by the answer.
-use Rattle.step.proofs.Steps.{time-none, time-load}
+-- `answer::load_time` meets its contract: by the answer.
+use Rattle.answer.proofs.Laws.{time-none, time-load}
 use borrow.Author.Needs.{needs}
-use Rattle.step.proofs.load_time.Statement.{statement}
-use Rattle.step.proofs.load_time.Tie as tie
+use Rattle.answer.proofs.load_time.Statement.{statement}
+use Rattle.answer.proofs.load_time.Tie as tie
 
 returns : tie.Need-returns
 returns c = time-none _ _ (c .if1 .taken)

@@ -1,9 +1,9 @@
--- `step::run_backup` meets its contract: the answer is what the response holds.
+-- `answer::run_backup` meets its contract: the answer is what the response holds.
 use mathlib.Core.Path.{refl}
-use Rattle.step.proofs.Steps.{responded}
+use Rattle.answer.proofs.Laws.{responded}
 use borrow.Author.Needs.{needs}
-use Rattle.step.proofs.run_backup.Statement.{statement}
-use Rattle.step.proofs.run_backup.Tie as tie
+use Rattle.answer.proofs.run_backup.Statement.{statement}
+use Rattle.answer.proofs.run_backup.Tie as tie
 
 answer-backup-requires : tie.Need-answer-backup-requires
 answer-backup-requires c κs = search needs

@@ -1,8 +1,8 @@
--- `note::with_report` meets its contract: part by part.
-use Rattle.note.specs.Note.{withReport}
+-- `assign::with_report` meets its contract: part by part.
+use Rattle.assign.specs.Assign.{withReport}
 use borrow.Author.Needs.{needs}
-use Rattle.note.proofs.with_report.Statement.{statement}
-use Rattle.note.proofs.with_report.Tie as tie
+use Rattle.assign.proofs.with_report.Statement.{statement}
+use Rattle.assign.proofs.with_report.Tie as tie
 
 read-report-requires : tie.Need-read-report-requires
 read-report-requires c κs = search needs

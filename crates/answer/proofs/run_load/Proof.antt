@@ -1,8 +1,8 @@
--- `step::run_load` meets its contract: the answer and its time are what the response holds.
-use Rattle.step.proofs.Steps.{responded}
+-- `answer::run_load` meets its contract: the answer and its time are what the response holds.
+use Rattle.answer.proofs.Laws.{responded}
 use borrow.Author.Needs.{needs}
-use Rattle.step.proofs.run_load.Statement.{statement}
-use Rattle.step.proofs.run_load.Tie as tie
+use Rattle.answer.proofs.run_load.Statement.{statement}
+use Rattle.answer.proofs.run_load.Tie as tie
 
 answer-load-requires : tie.Need-answer-load-requires
 answer-load-requires c κs = search needs

@@ -1,9 +1,9 @@
--- `step::run_cancel` meets its contract: the answer is what the response holds.
+-- `answer::run_cancel` meets its contract: the answer is what the response holds.
 use mathlib.Core.Path.{refl}
-use Rattle.step.proofs.Steps.{responded}
+use Rattle.answer.proofs.Laws.{responded}
 use borrow.Author.Needs.{needs}
-use Rattle.step.proofs.run_cancel.Statement.{statement}
-use Rattle.step.proofs.run_cancel.Tie as tie
+use Rattle.answer.proofs.run_cancel.Statement.{statement}
+use Rattle.answer.proofs.run_cancel.Tie as tie
 
 answer-cancel-requires : tie.Need-answer-cancel-requires
 answer-cancel-requires c κs = search needs

@@ -1,9 +1,9 @@
--- `step::run_transfer` meets its contract: the answer is what the response holds.
+-- `answer::run_transfer` meets its contract: the answer is what the response holds.
 use mathlib.Core.Path.{refl}
-use Rattle.step.proofs.Steps.{responded}
+use Rattle.answer.proofs.Laws.{responded}
 use borrow.Author.Needs.{needs}
-use Rattle.step.proofs.run_transfer.Statement.{statement}
-use Rattle.step.proofs.run_transfer.Tie as tie
+use Rattle.answer.proofs.run_transfer.Statement.{statement}
+use Rattle.answer.proofs.run_transfer.Tie as tie
 
 answer-transfer-requires : tie.Need-answer-transfer-requires
 answer-transfer-requires c κs = search needs
