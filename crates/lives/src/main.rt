@@ -11,13 +11,13 @@
 mod show;
 mod text;
 
+use agent::Length;
+use agent::Point;
 use agent::Report;
+use agent::Settings;
+use agent::Setup;
+use agent::State;
 use libc::STDIN_FILENO;
-use schedule::Length;
-use schedule::Point;
-use state::Settings;
-use state::Setup;
-use state::State;
 use text::Line;
 ghost use mathlib.Core.Path.{_≡_};
 ghost use Prim.Native.Nat.{_≤_};

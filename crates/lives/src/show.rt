@@ -1,5 +1,5 @@
 // The parts of an answer: values behind their keys, and the open image.
-use state::State;
+use agent::State;
 
 pub fn number(key: &[u8], n: u64) {
     lines::word(key);
