@@ -1,13 +1,12 @@
 -- Laws of replies: what each test of the code says of the definitions, and what fits.
 use Prim.Native.Nat.{ℕ, _+_, _≤_}
-use mathlib.Core.Path.{_≡_, refl, ap, _∙_}
+use mathlib.Core.Path.{_≡_, refl}
 use mathlib.Core.List.{List, [], _∷_, _++_}
-use mathlib.Core.Bool.{Bool, true, false}
+use mathlib.Core.Bool.{true, false}
 use native.Mathlib.Omega.{arith}
 use borrow.Author.Tests.{ne-eqb}
 use lib.Dec.{eqb}
 use lib.ListN.{length, length-append}
-use Rattle.buffer.specs.Pick.{pick}
 use Rattle.buffer.specs.Put.{Put, Appended}
 use Rattle.buffer.proofs.Puts.{appended-put, appended-none, appended-join, appended-all}
 use Rattle.buffer.proofs.Tests.{pick-both}

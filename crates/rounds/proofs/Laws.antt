@@ -1,14 +1,13 @@
 -- Laws of the calls that send a datagram of the agent's own.
-use Prim.Native.Nat.{ℕ, _≤_, _<_}
+use Prim.Native.Nat.{ℕ, _≤_}
 use mathlib.Core.Path.{_≡_, refl, sym, ap, _∙_}
 use mathlib.Core.List.{List, [], _∷_}
 use mathlib.Core.Bool.{Bool, true, false, not, _&&_, true≢false}
 use native.Mathlib.Omega.{arith}
-use borrow.Author.Tests.{ltb-false, lt-ltb, le-ltb, ne-eqb}
-use lib.Dec.{eqb, ltb}
+use borrow.Author.Tests.{ne-eqb}
+use lib.Dec.{eqb}
 use lib.ListN.{length}
 use lib.Seq.{sets}
-use Rattle.buffer.specs.Pick.{pick}
 use Rattle.buffer.specs.Put.{Put}
 use Rattle.buffer.proofs.Puts.{appended-put, appended-all}
 use Rattle.calls.specs.Own.{Sending, unsent, withRegistration, sending, sendingIf, roundOf, waited, backoffIn, restIn, intervalOf, isPositive, reports, reportOf}
