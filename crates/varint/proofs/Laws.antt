@@ -3,12 +3,15 @@ use Prim.Native.Nat.{ℕ, zero, suc, _+_, _*_, _-_, _/_, _%_, _^_, _≤_, _<_}
 use mathlib.Core.Path.{_≡_, refl, sym, ap, _∙_}
 use mathlib.Core.List.{List, [], _∷_}
 use mathlib.Core.Bool.{Bool, true, false}
-use native.Mathlib.Nat.{mul-comm, mul-suc, mul-add, mul-assoc, mul-le-mul-left}
+use native.Mathlib.Nat.{mul-comm, mul-suc, mul-add, mul-assoc, mul-le-mul-left, lt-of-not-le}
 use native.Mathlib.Numerals.{add-one, sub-one}
 use native.Mathlib.Omega.{arith}
-use borrow.Author.Tests.{lt-ltb, le-ltb}
+use borrow.Author.Tests.{lt-ltb, le-ltb, ltb-true, ltb-false}
+use lib.Bits.{bitOr, or-add-and, and-mask}
+use lib.Count.{leadingZeros, leading-le, leading-length}
 use lib.Dec.{ltb}
 use lib.ListN.{length, getD, drop, drop-of-length-le, length-append}
+use lib.Pow.{pow-mono, pow-add}
 use lib.Seq.{drop-cons}
 use Rattle.buffer.specs.Pick.{pick}
 use Rattle.varint.specs.Varint.{more, spelt, continued, spelling, varint, two, delimited}
@@ -51,28 +54,69 @@ pub varint-length : (v : ℕ) → (1 ≤ length (varint v)) × (length (varint v
 unfolding varint
 varint-length v = spelling-length 9 v
 
--- numbers below a power of 128 have short spellings
-abbrev most : ℕ → ℕ
-most zero = 128
-most (suc j) = 128 * most j
+-- one byte holds one to seven bits
+one-byte : (m v : ℕ) → 0 < v → v < 128 → v < 2 ^ m → 2 ^ m ≤ 2 * v + 1 → 1 ≡ (m + 6) / 7
+one-byte zero v p b h l = absurd (omega arith)
+one-byte (suc m) v p b h l =
+    let n : suc m < 8 = lt-of-not-le (λ (x : 8 ≤ suc m). let y = pow-mono x in absurd (omega arith)) in
+    omega arith
 
-spelling-most : (k j v : ℕ) → v < most j → length (spelling k v) ≤ suc j
+-- a number of m bits, the highest of them set, takes a byte for every seven bits begun
+spelling-bits : (k m v : ℕ) → 0 < v → v < bound k → v < 2 ^ m → 2 ^ m ≤ 2 * v + 1 → length (spelling k v) ≡ (m + 6) / 7
 unfolding spelling
-spelling-most zero j v h = omega arith
-spelling-most (suc k) zero v h = rw (lt-ltb v 128 h) (omega arith)
-spelling-most (suc k) (suc j) v h = go (ltb v 128) (spelling-most k j (v / 128) (omega arith))
+spelling-bits zero m v p b h l = one-byte m v p (omega arith) h l
+spelling-bits (suc k) m v p b h l = go (ltb v 128) refl (spelling-bits k (m - 7) (v / 128))
   where
-    go : (t : Bool) → length (spelling k (v / 128)) ≤ suc j → length (pick t (v ∷ []) (continued (v % 128) ∷ spelling k (v / 128))) ≤ suc (suc j)
-    go true g = omega arith
-    go false g = omega arith
+    go : (t : Bool) → ltb v 128 ≡ t
+        → (0 < v / 128 → v / 128 < bound k → v / 128 < 2 ^ (m - 7) → 2 ^ (m - 7) ≤ 2 * (v / 128) + 1 → length (spelling k (v / 128)) ≡ (m - 7 + 6) / 7)
+        → length (pick t (v ∷ []) (continued (v % 128) ∷ spelling k (v / 128))) ≡ (m + 6) / 7
+    go true e rest = one-byte m v p (ltb-true v 128 e) h l
+    go false e rest =
+        let g = ltb-false v 128 e in
+        let n : 7 < m = lt-of-not-le (λ (x : m ≤ 7). let y = pow-mono x in absurd (omega arith)) in
+        let q : 2 ^ m ≡ 2 ^ (m - 7) * 2 ^ 7 = ap (λ (x : ℕ). 2 ^ x) (omega arith) ∙ pow-add 2 (m - 7) 7 in
+        let r = rest (omega arith) (omega arith) (omega arith) (omega arith) in
+        omega arith
+
+-- the lowest bit makes no spelling longer
+spelling-half : (k u v : ℕ) → u / 2 ≡ v / 2 → length (spelling k u) ≡ length (spelling k v)
+unfolding spelling
+spelling-half zero u v h = refl
+spelling-half (suc k) u v h = go (ltb v 128) refl
+  where
+    go : (t : Bool) → ltb v 128 ≡ t → length (spelling (suc k) u) ≡ length (pick t (v ∷ []) (continued (v % 128) ∷ spelling k (v / 128)))
+    go true e = let g = ltb-true v 128 e in rw (lt-ltb u 128 (omega arith))
+    go false e =
+        let g = ltb-false v 128 e in
+        let q : u / 128 ≡ v / 128 = omega arith in
+        rw (le-ltb u 128 (omega arith), q)
+
+-- a number with its lowest bit set: zero, too, then has a highest bit
+abbrev odd : ℕ → ℕ
+odd v = bitOr v 1
+
+odd-sum : (v : ℕ) → odd v + v % 2 ≡ v + 1
+odd-sum v = ap (λ (k : ℕ). odd v + k) (sym (and-mask v 1)) ∙ or-add-and v 1
+
+-- the zeros above the highest bit tell how long the shortest spelling is, at every width
+varint-leading : (w v : ℕ) → w ≤ 64 → odd v < 2 ^ w → length (varint v) ≡ (w - leadingZeros w (odd v) + 6) / 7
+unfolding varint
+varint-leading w v g h =
+    let o = odd-sum v in
+    let p = pow-mono g in
+    let s = leading-length w (odd v) h in
+    let m : w - leadingZeros w (odd v) ≡ s .0 = omega (arith, s .1) in
+    sym (spelling-half 9 (odd v) v (omega arith)) ∙ spelling-bits 9 (s .0) (odd v) (omega arith) (omega arith) (s .2) (s .3) ∙ ap (λ (k : ℕ). (k + 6) / 7) (sym m)
 
 pub varint-1 : (v : ℕ) → v < 128 → length (varint v) ≤ 1
-unfolding varint
-varint-1 v h = spelling-most 9 0 v h
+varint-1 v h = let o = odd-sum v in omega (arith, varint-leading 7 v (omega arith) (omega arith))
 
 pub varint-5 : (v : ℕ) → v < 2 ^ 32 → length (varint v) ≤ 5
-unfolding varint
-varint-5 v h = spelling-most 9 4 v (omega arith)
+varint-5 v h = let o = odd-sum v in omega (arith, varint-leading 32 v (omega arith) (omega arith))
+
+-- ten bytes, less one for every seven zeros at the top of their bits
+pub varint-64 : (v : ℕ) → v < 2 ^ 64 → 10 - (6 + leadingZeros 64 (odd v)) / 7 ≡ length (varint v)
+varint-64 v h = let o = odd-sum v in omega (arith, leading-le 64 (odd v), varint-leading 64 v (omega arith) (omega arith))
 
 -- what the bytes read so far, worth `value` below `scale`, make of the rest
 abbrev pub finish : ℕ → ℕ → Varint → Varint

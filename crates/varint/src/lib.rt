@@ -59,17 +59,13 @@ pub fn read_delimited(s: &[u8], at: usize) -> Delimited
     Delimited::At(start, end)
 }
 
-// How many bytes the shortest spelling of `v` has.
+// How many bytes the shortest spelling of `v` has: ten, less one for every seven zeros at the top of their
+// seventy bits, which are six more than those of `v`. Zero takes one byte, as 1 does.
 pub fn len(v: u64) -> usize
     ensures { λ r. ⌜ r ≡ length (varint v) ⌝ }
 {
-    let mut rest = v;
-    let mut n = 1;
-    while 128 <= rest {
-        rest /= 128;
-        n += 1;
-    }
-    n
+    let zeros = 6 + u64::leading_zeros(v | 1);
+    10 - (zeros / 7) as usize
 }
 
 // Appends the shortest spelling of `v`, and answers the next position.
