@@ -1,4 +1,5 @@
 pub mod OwnSizes
 pub mod AckSizes
 pub mod Sizes
+pub mod Complete
 pub mod Merges

@@ -30,6 +30,7 @@ use Rattle.step.specs.Step.{World, withFlash, blockTaken, act}
 use Rattle.state.specs.declared.Device.{Device}
 use Rattle.state.specs.declared.Registration.{Registration}
 use Rattle.tlv.specs.Record.{Tlv}
+use Rattle.transfer.specs.Bitmap.{Counted}
 use Rattle.transfer.specs.Block.{Flash, Offer, offered, putBlock, takeBlock}
 use Rattle.transfer.specs.Merge.{Merge, none as nothing, first, second, putAll, Ended}
 use Rattle.transfer.proofs.Puts.{put-hash, put-length}
@@ -307,11 +308,12 @@ ended : (k : Kept) (zs : List Call) → Sized (k .state) → k .state .images .�
 unfolding putAll
 ended k zs s o =
     let i = s .images .opened o in
+    let c : Counted (k .state .images .image) = record { number = s .images .number; spare = i .spare } in
     split (eqb (length (k .image)) (k .state .device .«image_len»))
     (λ e. let l = eqb-true (length (k .image)) (k .state .device .«image_len») e in
     ends (flashOf k) (brought k zs)
-    (record { blocked = i .each .0; numbered = i .count; room = let h = i .size .1 in omega arith; mapped = i .bitmap }))
-    (λ e. rw (none-brought k o zs (eqb-false (length (k .image)) (k .state .device .«image_len») e)) (ends-none (flashOf k)))
+    (record { blocked = i .each .0; numbered = i .count; room = let h = i .size .1 in omega arith; mapped = i .bitmap; counted = c }))
+    (λ e. rw (none-brought k o zs (eqb-false (length (k .image)) (k .state .device .«image_len») e)) (ends-none (flashOf k) c))
 
 pub demand-3 : Demand3
 demand-3 k xs ys zs m o a b z g =

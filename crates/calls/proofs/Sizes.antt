@@ -52,11 +52,13 @@ use Rattle.state.specs.declared.State.{State}
 use Rattle.state.specs.declared.setup.Settings.{Settings}
 use Rattle.state.specs.declared.setup.Setup.{Setup}
 use Rattle.tlv.specs.Record.{Tlv, records}
-use Rattle.transfer.specs.Bitmap.{bit, held}
+use Rattle.transfer.specs.Bitmap.{Numbered, Counted}
 use Rattle.transfer.specs.Block.{Flash, Offer, offered, putBlock, putOffer, takeBlock}
 use Rattle.transfer.specs.Blocks.{blocks}
-use Rattle.transfer.proofs.Marks.{length-marked, held-other}
-use Rattle.transfer.proofs.Puts.{fits-told, put-cases}
+use Rattle.transfer.proofs.BlockLaws.{fits-told}
+use Rattle.transfer.proofs.Counts.{ones-none, counted-put}
+use Rattle.transfer.proofs.Marks.{length-marked, held-other, held-none}
+use Rattle.transfer.proofs.Puts.{put-cases}
 use Rattle.calls.specs.Boot.{bootOf}
 use Rattle.class.specs.Class.{classOf}
 use Rattle.calls.specs.Datagram.{Call, Effect, worldIn, refusal, servedAs, served, replied, classed, received, datagramOf}
@@ -100,6 +102,7 @@ module _ (hw vendor running url : List ℕ) (s : Settings) where
             record {
               running = length-sets (replicate 32 0) 0 running;
               opened = λ q. absurd (true≢false (sym q));
+              number = sym ones-none;
               pending = refl;
               backup = refl;
             };
@@ -130,19 +133,12 @@ unfolding versionAt atMost
 version-short v (At start stop) h = omega (arith, length-take (stop - start) (drop start v), leb-true (stop - start) 32 h)
 version-short v Absent h = omega arith
 
--- an empty bitmap holds nothing
-bit-none : (j : ℕ) → bit j 0 ≡ false
-unfolding bit
-bit-none zero = refl
-bit-none (suc j) = bit-none j
+-- record 65: an image begins with no block held
+opened-numbered : (v : List ℕ) (t : Transfer) (size each : ℕ) → Numbered (openedBy v t size each)
+unfolding openedBy
+opened-numbered v t size each = sym ones-none
 
-held-none : (n : ℕ) → held (replicate 128 0) n ≡ false
-unfolding held
-held-none n =
-    pick-both (λ (t : Bool). t ≡ false) (ltb n 1024) (bit (7 - n % 8) (getD (replicate 128 0) (n / 8) 0)) false
-    (λ h. let l = ltb-true n 1024 h in ap (bit (7 - n % 8)) (getD-replicate 128 (n / 8) 0 0 (omega arith)) ∙ bit-none (7 - n % 8)) (λ h. refl)
-
--- record 65: what a request without a fault has
+-- what a request without a fault has
 module _ (d : Device) (size each : ℕ) where
   abbrev Fits : Type 0
   Fits = Between 1 each 1024 × ((size ≤ d .«image_len») × (blocks size each ≤ 1024))
@@ -193,11 +189,11 @@ module _ (d : Device) (i : Images) (s : ImagesSized d i) where
   abbrev Answers : Answered → Type 0
   Answers a = ImagesSized d (a .images)
 
-  opens-sized : (m : Image) → OpenSized d m → Answers (opens i m)
+  opens-sized : (m : Image) → OpenSized d m → Numbered m → Answers (opens i m)
   unfolding opens replaced
-  opens-sized m o =
+  opens-sized m o n =
       pick-both Answers (isOpen i (m .hash)) _ _ (λ h. s)
-      (λ h. record { running = s .running; opened = λ e. o; pending = s .pending; backup = s .backup })
+      (λ h. record { running = s .running; opened = λ e. o; number = n; pending = s .pending; backup = s .backup })
 
   transfer-sized : (v : List ℕ) → Answers (transferAnswered d i v)
   unfolding transferAnswered openIf
@@ -207,12 +203,12 @@ module _ (d : Device) (i : Images) (s : ImagesSized d i) where
       let each = numberOr0 (t .«block_size») in
       pick-both Answers (isWhole t) _ _
       (λ w. pick-both Answers (eqb (faultOf d i v t size each) 0) _ _
-      (λ e. opens-sized (openedBy v t size each) (opened-sized d i v t size each w refl (eqb-true (faultOf d i v t size each) 0 e))) (λ e. s)) (λ w. s)
+      (λ e. opens-sized (openedBy v t size each) (opened-sized d i v t size each w refl (eqb-true (faultOf d i v t size each) 0 e)) (opened-numbered v t size each)) (λ e. s)) (λ w. s)
 
   -- records 68 to 70
   pending-sized : (hash : List ℕ) (is : Bool) (time : Point) → length hash ≡ 32
       → ImagesSized d (withPending i (record { is = is; hash = hash; time = time }))
-  pending-sized hash is time l = record { running = s .running; opened = s .opened; pending = l; backup = s .backup }
+  pending-sized hash is time l = record { running = s .running; opened = s .opened; number = s .number; pending = l; backup = s .backup }
 
   loads-sized : (hash : List ℕ) (time : Point) → length hash ≡ 32 → Answers (loads i hash time)
   unfolding loads
@@ -246,7 +242,7 @@ module _ (d : Device) (i : Images) (s : ImagesSized d i) where
       pick-both Answers (isHash (hashOf v .hash)) _ _
       (λ h. pick-both Answers (eqb (openFault i hash) 0) _ _
       (λ o. pick-both Answers (i .pending .is) _ _ (λ p. s)
-      (λ p. record { running = s .running; opened = s .opened; pending = s .pending; backup = hash-long v (hashOf v .hash) })) (λ o. s)) (λ h. s)
+      (λ p. record { running = s .running; opened = s .opened; number = s .number; pending = s .pending; backup = hash-long v (hashOf v .hash) })) (λ o. s)) (λ h. s)
 
 -- record 67
 module _ (d : Device) (i : Image) (bs : List ℕ) (s : OpenSized d i) where
@@ -272,10 +268,27 @@ module _ (d : Device) (i : Image) (bs : List ℕ) (s : OpenSized d i) where
   unfolding takeBlock
   take-sized v = offer-sized (offered i v)
 
+  -- the number moves with the bits
+  sized-counted : Numbered i → Counted i
+  sized-counted n = record { number = n; spare = s .spare }
+
+  put-numbered : Numbered i → (n : ℕ) (dat : List ℕ) → Numbered (putBlock i bs n dat .image)
+  put-numbered k n dat =
+      put-cases i bs n dat (λ (f : Flash). Numbered (f .image)) k
+      (λ h g. counted-put i n (length dat) (sized-counted k) (s .count) (s .bitmap) h g .number)
+
+  offer-numbered : Numbered i → (o : Option Offer) → Numbered (putOffer i bs o .image)
+  offer-numbered k none = k
+  offer-numbered k (some o) = put-numbered k (o .number) (o .bytes)
+
+  take-numbered : Numbered i → (v : List ℕ) → Numbered (takeBlock i bs v .image)
+  unfolding takeBlock
+  take-numbered k v = offer-numbered k (offered i v)
+
 -- what records may change
-record WorldSized (d : Device) (w : World) : Type 0 where
-  images : ImagesSized d (w .images)
-  registration : RegistrationSized d (w .registration)
+pub record WorldSized (d : Device) (w : World) : Type 0 where
+  pub images : ImagesSized d (w .images)
+  pub registration : RegistrationSized d (w .registration)
 
 readable-redirect : (k : ℕ) (v : List ℕ) → eqb k 6 ≡ true → isReadable k v ≡ true → redirectOf v .readable ≡ true
 unfolding isReadable
@@ -295,6 +308,7 @@ module _ (d : Device) (sized : DeviceSized d) where
             record {
               running = i .running;
               opened = λ e. take-sized d (w .images .image) (w .flash) (i .opened o) v;
+              number = take-numbered d (w .images .image) (w .flash) (i .opened o) (i .number) v;
               pending = i .pending;
               backup = i .backup;
             };
@@ -316,7 +330,7 @@ module _ (d : Device) (sized : DeviceSized d) where
       changed : {i : Images} → ImagesSized d i → WorldSized d (withImages w i)
       changed x = record { images = x; registration = s .registration }
 
-  ran-sized : (w : World) (ts : List Tlv) → Each Readable ts → WorldSized d w → WorldSized d (ran d w ts)
+  pub ran-sized : (w : World) (ts : List Tlv) → Each Readable ts → WorldSized d w → WorldSized d (ran d w ts)
   unfolding ran
   ran-sized w [] h s = s
   ran-sized w (t ∷ ts) h s = ran-sized (act d w (t .kind) (t .value)) ts (h .1) (act-sized w (t .kind) (t .value) (h .0) s)
@@ -334,7 +348,7 @@ posted-sized d g w p time verdict k s =
     posted-as-sized d k w p (judged (lookedAt g time p) verdict (d .«signed_posts»)) (run-readable g time p verdict (d .«signed_posts»)) s
 
 module _ (s : State) (image : List ℕ) (sized : Sized s) where
-  world-sized : WorldSized (s .device) (worldIn s image)
+  pub world-sized : WorldSized (s .device) (worldIn s image)
   world-sized = record { images = sized .images; registration = sized .registration }
 
   served-sized : (store payload : List ℕ) (time : Point) (verdict : ℕ) (ids : List ℕ) (asks : Asks) → Sized (servedAs s image store payload time verdict ids asks .state)
@@ -370,7 +384,7 @@ boot-images-sized : (d : Device) (i : Images) → ImagesSized d i → ImagesSize
 unfolding booted
 boot-images-sized d i k =
     pick-both (ImagesSized d) (i .pending .is) _ _
-    (λ h. record { running = k .pending; opened = k .opened; pending = refl; backup = k .backup })
+    (λ h. record { running = k .pending; opened = k .opened; number = k .number; pending = refl; backup = k .backup })
     (λ h. k)
 
 boot-sized : (s : State) → Sized s → Sized (bootOf s)

@@ -1,4 +1,4 @@
--- The states that setup and calls make, and what document 01, "Sizes", promises of them.
+-- The states that setup and calls make, and what document 01, "Sizes", and document 02, Q-2, promise of them.
 use Prim.Native.Nat.{ℕ, _≤_}
 use mathlib.Core.Path.{_≡_}
 use mathlib.Core.List.{List}
@@ -14,7 +14,7 @@ use Rattle.state.specs.declared.Images.{Images}
 use Rattle.state.specs.declared.Registration.{Registration}
 use Rattle.state.specs.declared.State.{State}
 use Rattle.state.specs.declared.setup.Settings.{Settings}
-use Rattle.transfer.specs.Bitmap.{held}
+use Rattle.transfer.specs.Bitmap.{held, Numbered}
 use Rattle.transfer.specs.Blocks.{blocks}
 use Rattle.calls.specs.Boot.{bootOf}
 use Rattle.calls.specs.Datagram.{Call, datagramOf}
@@ -52,9 +52,11 @@ pub record OpenSized (d : Device) (i : Image) : Type 0 where
   pub bitmap : length (i .bitmap) ≡ 128
   pub spare : (n : ℕ) → blocks (i .size) (i .«block_size») ≤ n → held (i .bitmap) n ≡ false
 
+-- hashes 32; the number of blocks held is that of the ones
 pub record ImagesSized (d : Device) (i : Images) : Type 0 where
   pub running : length (i .running) ≡ 32
   pub opened : i .«open» ≡ true → OpenSized d (i .image)
+  pub number : Numbered (i .image)
   pub pending : length (i .pending .hash) ≡ 32
   pub backup : length (i .backup .bytes) ≡ 32
 

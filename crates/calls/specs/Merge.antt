@@ -117,8 +117,8 @@ flashOf k = record { image = k .state .images .image; bytes = k .image }
 abbrev pub keptWith : Kept → Flash → Kept
 keptWith k f = record { state = withWorld (k .state) (withFlash (worldIn (k .state) (k .image)) f); image = f .bytes }
 
--- what a merge leaves: what the first feed followed by the second leaves; held blocks are kept, new ones are in place with their bit, all
--- else is as it was, and the image is complete exactly when every number was held or came
+-- what a merge leaves: what the first feed followed by the second leaves; held blocks are kept, new ones are in place with their bit, the
+-- number held moves with the bits, all else is as it was, and the image is complete exactly when every block number was held or came
 pub record Merged (k : Kept) (xs ys zs : List Call) : Type 0 where
   pub same : afterAll zs k ≡ afterAll ys (afterAll xs k)
   pub blocks : Ended (flashOf k) (brought k zs) (flashOf (afterAll zs k))

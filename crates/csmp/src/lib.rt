@@ -33,7 +33,8 @@ pub struct Hash {
     pub bytes: [u8; 32],
 }
 
-// The image that a TransferRequest opened. Its bitmap has a bit for each block, block 0 the top bit of the first byte.
+// The image that a TransferRequest opened. Its bitmap has a bit for each block, block 0 the top bit of the first byte;
+// `held` is how many blocks are held.
 pub struct Image {
     pub hash: [u8; 32],
     pub name: Name,
@@ -41,6 +42,7 @@ pub struct Image {
     pub size: u32,
     pub block_size: u32,
     pub bitmap: [u8; 128],
+    pub held: u32,
 }
 
 // The ids of a TlvIndex, ascending: the first `count` of `list`.

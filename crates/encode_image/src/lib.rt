@@ -47,9 +47,9 @@ pub fn put_backup(out: &mut [u8], at: usize, hash: [u8; 32], time: Moment) -> us
     tlv::put(out, at, 75, &value[..n])
 }
 
-// The same of the open image, whose bitmap is the first `held` bytes.
-pub fn put_open(out: &mut [u8], at: usize, image: Image, held: usize, time: Moment) -> usize
-    ensures { λ r. ⌜ Put (now (out .entry)) at (openRecord image held time) (now (out .exit)) r ⌝ }
+// The same of the open image, whose bitmap is the first `map_len` bytes.
+pub fn put_open(out: &mut [u8], at: usize, image: Image, map_len: usize, time: Moment) -> usize
+    ensures { λ r. ⌜ Put (now (out .entry)) at (openRecord image «map_len» time) (now (out .exit)) r ⌝ }
 {
     let mut value = [0u8; 512];
     let hash = image.hash;
@@ -74,7 +74,7 @@ pub fn put_open(out: &mut [u8], at: usize, image: Image, held: usize, time: Mome
     );
     let e = protobuf::put_number(&mut value, d, 5, image.size as u64);
     let f = protobuf::put_number(&mut value, e, 6, image.block_size as u64);
-    let g = protobuf::put_bytes(&mut value, f, 7, buffer::front(&bitmap, held));
+    let g = protobuf::put_bytes(&mut value, f, 7, buffer::front(&bitmap, map_len));
     let n = protobuf::put_given(&mut value, g, 10, csmp::moment_number(time));
     tlv::put(out, at, 75, &value[..n])
 }

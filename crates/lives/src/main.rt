@@ -1,10 +1,11 @@
 // Plays the lives of devices: each line on standard input is a call of the agent, printed again with what it answers.
 //
 // A life's calls go on from one state. Bytes are in hex, numbers decimal, `-` is none. A line `store` holds a store for
-// calls that say `store=held`, and a line `image` shows the open image; other lines are printed as they are. No answer
-// was taken from this program: they are those of models written from document 01. The first lives came with the order
-// (waits, rounds, acknowledgements, redirects, reports, loads, boots; signed responses; refusals; setups at their
-// limits). Then come transfers and questions, whose datagrams were made by a script: blocks by multicast and again to a
+// calls that say `store=held`. Some lines only look: `image` at the open image, `progress` at how far it is, `complete` at whether
+// none is missing, `look` at the URL held and the front of the image buffer. Other lines are printed as they are. No answer
+// was taken from this program: they are those of models written from documents 01 and 02. The first lives came with the
+// order (waits, rounds, acknowledgements, redirects, reports, loads, boots; signed responses; refusals; setups at their
+// limits; each request's own; random calls). Then come transfers and questions, whose datagrams were made by a script: blocks by multicast and again to a
 // straggler, repeated with other bytes, out of order, damaged; steps a to i, refusals and resets; every answer to
 // records 65 and 68 to 70; TlvIndex, ids by path and by query, copied spellings, replies of 1,280 bytes and one more;
 // stores at their limits; record 75 in every state of the images; groups and reports as acknowledgements assign them.
@@ -125,7 +126,23 @@ fn image_room(state: State) -> usize
     n
 }
 
-// A call that is lent buffers; and what the image buffer holds.
+// A line that only looks.
+fn look(state: State, image: &[u8], line: &[u8]) {
+    if text::stands(line, 0, b"image") {
+        show::image(state, image);
+    }
+    if text::stands(line, 0, b"progress") {
+        show::progress(state);
+    }
+    if text::stands(line, 0, b"complete") {
+        show::complete(b" -> ", state);
+    }
+    if text::stands(line, 0, b"look ") {
+        show::kept(state, image, text::number(line, b" len=") as usize);
+    }
+}
+
+// A call that is lent buffers, or a line that only looks.
 fn lend(state: State, image: &mut [u8], out: &mut [u8], store: &[u8], line: &[u8]) -> State {
     if text::stands(line, 0, b"datagram ") {
         return datagram(state, image, out, store, line);
@@ -136,9 +153,7 @@ fn lend(state: State, image: &mut [u8], out: &mut [u8], store: &[u8], line: &[u8
     if text::stands(line, 0, b"report ") {
         return report(state, out, store, line);
     }
-    if text::stands(line, 0, b"image") {
-        show::image(state, image);
-    }
+    look(state, image, line);
     state
 }
 

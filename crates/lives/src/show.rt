@@ -12,24 +12,15 @@ pub fn bytes(key: &[u8], out: &[u8], len: usize) {
     lines::hex(buffer::front(out, len));
 }
 
-// How many blocks the open image has; 0 where none is open.
-fn blocks(state: State) -> u64 {
-    if !state.images.open {
-        return 0;
-    }
-    let image = state.images.image;
-    transfer::block_count(image.size, image.block_size)
-}
-
 // How many bytes of the bitmap are shown: those that have a block's bit, at most 16.
-fn shown(blocks: u64) -> usize {
+fn shown(blocks: u32) -> usize {
     if 128 < blocks {
         return 16;
     }
-    ((blocks + 7) / 8) as usize
+    (blocks as usize + 7) / 8
 }
 
-fn bitmap(map: [u8; 128], blocks: u64) {
+fn bitmap(map: [u8; 128], blocks: u32) {
     bytes(b" bitmap=", &map, shown(blocks));
 }
 
@@ -44,12 +35,36 @@ fn remainder(s: &[u8]) -> u64 {
     sum
 }
 
+// Whether no block of the open image is missing.
+pub fn complete(key: &[u8], state: State) {
+    number(key, agent::is_complete(state) as u64);
+}
+
+// How far the open image is.
+pub fn progress(state: State) {
+    let p = agent::progress(state);
+    number(b" -> held=", p.held as u64);
+    number(b" blocks=", p.blocks as u64);
+    number(b" complete=", p.complete as u64);
+}
+
+fn url(letters: [u8; 128], len: usize) {
+    bytes(b" -> url=", &letters, len);
+}
+
+// The URL held, and the first bytes of the image buffer.
+pub fn kept(state: State, buffer: &[u8], len: usize) {
+    let letters = state.registration.url.bytes;
+    url(letters, state.registration.url.len);
+    bytes(b" image=", buffer, len);
+}
+
 // The open image: its blocks, the front of its bitmap, and whether none is missing; and the image buffer as one number.
 pub fn image(state: State, buffer: &[u8]) {
-    let n = blocks(state);
-    number(b" -> blocks=", n);
+    let p = agent::progress(state);
+    number(b" -> blocks=", p.blocks as u64);
     let map = state.images.image.bitmap;
-    bitmap(map, n);
-    number(b" complete=", agent::is_complete(state) as u64);
+    bitmap(map, p.blocks);
+    complete(b" complete=", state);
     number(b" sum=", remainder(buffer));
 }

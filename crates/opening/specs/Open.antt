@@ -50,7 +50,7 @@ faultOf d i v t size each =
     (pick (ltb (d .«image_len») size || ltb 1024 (blocks size each)) 4 0))
     1)
 
--- an image with an empty bitmap
+-- an image with an empty bitmap: no block is held
 unfoldable pub openedBy : List ℕ → Transfer → ℕ → ℕ → Image
 openedBy v t size each =
     record {
@@ -60,6 +60,7 @@ openedBy v t size each =
       size = size;
       «block_size» = each;
       bitmap = replicate 128 0;
+      held = 0;
     }
 
 unfoldable pub replaced : Images → Image → Answered

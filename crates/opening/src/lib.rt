@@ -104,7 +104,7 @@ fn fault(device: Device, images: Images, v: &[u8], t: Transfer, size: u32, block
     firmware::OK
 }
 
-// The image that a request opens: an empty bitmap.
+// The image that a request opens: an empty bitmap, no block held.
 fn opened(v: &[u8], t: Transfer, size: u32, block_size: u32) -> Image
     ensures { λ r. ⌜ r ≡ openedBy (now (v .entry)) t size «block_size» ⌝ }
 {
@@ -121,6 +121,7 @@ fn opened(v: &[u8], t: Transfer, size: u32, block_size: u32) -> Image
         size,
         block_size,
         bitmap: [0; 128],
+        held: 0,
     }
 }
 

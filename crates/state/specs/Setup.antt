@@ -41,6 +41,7 @@ noImage =
       size = 0;
       «block_size» = 0;
       bitmap = replicate 128 0;
+      held = 0;
     }
 
 -- no load pending, no groups

@@ -85,6 +85,7 @@ fn no_image() -> Image
         size: 0,
         block_size: 0,
         bitmap: [0; 128],
+        held: 0,
     }
 }
 

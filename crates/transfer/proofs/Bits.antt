@@ -1,7 +1,7 @@
 -- Laws of one bit of a byte, by halving.
 use Prim.Native.Nat.{ℕ, zero, suc, _+_, _*_, _-_, _/_, _%_, _^_, _<_, _≤_}
 use mathlib.Core.Path.{_≡_, refl, ap}
-use mathlib.Core.Bool.{true}
+use mathlib.Core.Bool.{true, false}
 use native.Mathlib.Nat.{pow-suc}
 use native.Mathlib.Numerals.{sub-one}
 use native.Mathlib.Omega.{arith}
@@ -70,3 +70,9 @@ raised-swap zero zero b = refl
 raised-swap zero (suc k) b = rw (half-low, low-low, half-of)
 raised-swap (suc j) zero b = rw (half-low, low-low, half-of)
 raised-swap (suc j) (suc k) b = simp (half-of, low-of) (ap (λ (x : ℕ). x * 2 + b % 2) (raised-swap j k (b / 2)))
+
+-- no bit of 0 is set
+pub bit-none : (j : ℕ) → bit j 0 ≡ false
+unfolding bit
+bit-none zero = refl
+bit-none (suc j) = bit-none j

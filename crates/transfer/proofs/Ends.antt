@@ -13,13 +13,15 @@ use lib.Seq.{sets}
 use Rattle.buffer.proofs.Tests.{split, both}
 use Rattle.buffer.specs.Pick.{pick}
 use Rattle.csmp.specs.declared.Image.{Image}
-use Rattle.transfer.specs.Bitmap.{held, allHeld, complete, withBitmap}
+use Rattle.transfer.specs.Bitmap.{held, allHeld, noneMissing, complete, Counted, withHeld}
 use Rattle.transfer.specs.Block.{fitsAt, Flash, Offer, putBlock, Sound}
 use Rattle.transfer.specs.Blocks.{blocks, blockLength}
 use Rattle.transfer.specs.Merge.{putAll, blockAt, came, isSome, Ended, Ends}
+use Rattle.transfer.proofs.BlockLaws.{fits-told}
+use Rattle.transfer.proofs.Counts.{compares}
 use Rattle.transfer.proofs.Lengths.{length-most, block-inside, lower-before}
 use Rattle.transfer.proofs.Marks.{held-other}
-use Rattle.transfer.proofs.Puts.{fits-told, put-cases, put-size, put-block-size, put-fits, put-length, sound-put, put-holds, put-inside}
+use Rattle.transfer.proofs.Puts.{put-cases, put-size, put-block-size, put-fits, put-length, sound-put, put-holds, put-inside}
 use Rattle.transfer.proofs.Stores.{drop-sets, stretch-sets}
 
 -- all are held exactly when each is
@@ -98,8 +100,8 @@ module _ (i : Image) (bs : List ℕ) (n : ℕ) (d : List ℕ) where
   put-brings s g h =
       (put-holds i bs n d s h, ap (λ (k : ℕ). take k (drop (n * i .«block_size») (putBlock i bs n d .bytes))) (sym (fits-told i n (length d) h .1)) ∙ put-inside i bs n d s h g)
 
-  put-image : putBlock i bs n d .image ≡ withBitmap i (putBlock i bs n d .image .bitmap)
-  put-image = put-cases i bs n d (λ (f : Flash). f .image ≡ withBitmap i (f .image .bitmap)) refl (λ h g. refl)
+  put-image : putBlock i bs n d .image ≡ withHeld i (putBlock i bs n d .image .bitmap) (putBlock i bs n d .image .held)
+  put-image = put-cases i bs n d (λ (f : Flash). f .image ≡ withHeld i (f .image .bitmap) (f .image .held)) refl (λ h g. refl)
 
   put-behind : drop (i .size) (putBlock i bs n d .bytes) ≡ drop (i .size) bs
   put-behind =
@@ -117,7 +119,7 @@ module _ (i : Image) (bs : List ℕ) (n : ℕ) (d : List ℕ) where
   put-came m [] = refl
   put-came m (o ∷ os) = rw (put-fits i bs n d m (length (o .bytes)), put-came m os)
 
--- the end, but for completeness
+-- the end, but for the number and completeness
 record Parts (f : Flash) (os : List Offer) (e : Flash) : Type 0 where
   kept : (n : ℕ) → held (f .image .bitmap) n ≡ true
       → (held (e .image .bitmap) n ≡ true) × (blockAt (f .image) (e .bytes) n ≡ blockAt (f .image) (f .bytes) n)
@@ -125,7 +127,7 @@ record Parts (f : Flash) (os : List Offer) (e : Flash) : Type 0 where
       → (held (e .image .bitmap) n ≡ true) × (blockAt (f .image) (e .bytes) n ≡ bs)
   missing : (n : ℕ) → held (f .image .bitmap) n ≡ false → came (f .image) n os ≡ none
       → (held (e .image .bitmap) n ≡ false) × (blockAt (f .image) (e .bytes) n ≡ blockAt (f .image) (f .bytes) n)
-  image : e .image ≡ withBitmap (f .image) (e .image .bitmap)
+  image : e .image ≡ withHeld (f .image) (e .image .bitmap) (e .image .held)
   behind : drop (f .image .size) (e .bytes) ≡ drop (f .image .size) (f .bytes)
   long : length (e .bytes) ≡ length (f .bytes)
 
@@ -195,8 +197,8 @@ parts-more f o os e s r = record { kept = kept; new = new; missing = missing; im
         let q = r .missing m (p .0 ∙ h) (put-came i (f .bytes) n d m os ∙ sym (came-not i m o os k) ∙ c) in
         (q .0, through m (q .1) ∙ p .1))
 
-    image : e .image ≡ withBitmap i (e .image .bitmap)
-    image = r .image ∙ ap (λ (x : Image). withBitmap x (e .image .bitmap)) (put-image i (f .bytes) n d)
+    image : e .image ≡ withHeld i (e .image .bitmap) (e .image .held)
+    image = r .image ∙ ap (λ (x : Image). withHeld x (e .image .bitmap) (e .image .held)) (put-image i (f .bytes) n d)
 
     behind : drop (i .size) (e .bytes) ≡ drop (i .size) (f .bytes)
     behind = subst (λ (k : ℕ). drop k (e .bytes) ≡ drop k (g .bytes)) (put-size i (f .bytes) n d) (r .behind) ∙ put-behind i (f .bytes) n d
@@ -208,13 +210,19 @@ parts f (o ∷ os) s =
     let g = putBlock (f .image) (f .bytes) (o .number) (o .bytes) in
     parts-more f o os (putAll os g) s (parts g os (sound-put (f .image) (f .bytes) (o .number) (o .bytes) s))
 
+sound-all : (f : Flash) (os : List Offer) → Sound (f .image) (f .bytes) → Sound (putAll os f .image) (putAll os f .bytes)
+unfolding putAll
+sound-all f [] s = s
+sound-all f (o ∷ os) s =
+    sound-all (putBlock (f .image) (f .bytes) (o .number) (o .bytes)) os (sound-put (f .image) (f .bytes) (o .number) (o .bytes) s)
+
 -- whether a block came
 cases : {X : Type 0} {A : Type 0} (c : Option A) → (c ≡ none → X) → ((a : A) → c ≡ some a → X) → X
 cases none f g = f refl
 cases (some a) f g = g a refl
 
 -- complete exactly when every number was held or came
-module _ (f : Flash) (os : List Offer) (e : Flash) (r : Parts f os e) where
+module _ (f : Flash) (os : List Offer) (e : Flash) (c : Counted (e .image)) (r : Parts f os e) where
   abbrev Had : ℕ → Type 0
   Had n = (held (f .image .bitmap) n || isSome (came (f .image) n os)) ≡ true
 
@@ -229,8 +237,8 @@ module _ (f : Flash) (os : List Offer) (e : Flash) (r : Parts f os e) where
       (λ k. cases (came (f .image) n os) (λ c. let z : false ≡ true = rw (k, c) at h in absurd (true≢false (sym z))) (λ bs c. r .new n bs k c .0))
 
   whole : complete (e .image) ≡ allHeld (blocks (f .image .size) (f .image .«block_size»)) (e .image .bitmap)
-  unfolding complete
-  whole = ap complete (r .image)
+  unfolding noneMissing
+  whole = compares (e .image) c ∙ ap noneMissing (r .image)
 
   ended : Ended f os e
   ended =
@@ -240,16 +248,17 @@ module _ (f : Flash) (os : List Offer) (e : Flash) (r : Parts f os e) where
         kept = r .kept;
         new = r .new;
         missing = r .missing;
+        number = c .number;
         image = r .image;
         behind = r .behind;
         long = r .long;
-        done = λ c n l. had-held n (all-each map count (sym whole ∙ c) n l);
+        done = λ t n l. had-held n (all-each map count (sym whole ∙ t) n l);
         enough = λ h. whole ∙ each-all map count (λ n l. held-had n (h n l));
       }
 
 -- no blocks leave what was
-pub ends-none : (f : Flash) → Ended f [] f
-ends-none f = ended f [] f (parts-none f)
+pub ends-none : (f : Flash) → Counted (f .image) → Ended f [] f
+ends-none f c = ended f [] f c (parts-none f)
 
 pub ends : Ends
-ends f os s = ended f os (putAll os f) (parts f os s)
+ends f os s = ended f os (putAll os f) (sound-all f os s .counted) (parts f os s)

@@ -1,7 +1,7 @@
 -- Laws of block arithmetic: how many blocks there are, and where each lies in the file.
 use Prim.Native.Nat.{ℕ, zero, suc, _+_, _*_, _-_, _^_, _<_, _≤_}
 use mathlib.Core.Path.{_≡_, refl}
-use native.Mathlib.Nat.{div-zero, mul-le-mul, mul-le-mul-right, suc-mul, one-mul, le-div-iff-mul-le}
+use native.Mathlib.Nat.{div-zero, div-lt-iff-lt-mul, le-mul-of-pos-right, mul-le-mul, mul-le-mul-right, suc-mul, one-mul, le-div-iff-mul-le}
 use native.Mathlib.Omega.{arith}
 use Rattle.transfer.specs.Blocks.{blocks, blockLength}
 
@@ -14,6 +14,16 @@ blocks-none size each e = rw e (div-zero (size + (0 - 1)))
 pub blocks-each : (size each n : ℕ) → n < blocks size each → 1 ≤ each
 blocks-each size zero n h = let z = blocks-none size 0 refl in absurd (omega arith)
 blocks-each size (suc k) n h = omega arith
+
+-- there are no more blocks than bytes
+pub blocks-most : (size each : ℕ) → blocks size each ≤ size
+unfolding blocks
+blocks-most size zero = let z = blocks-none size 0 refl in omega arith
+blocks-most size (suc k) =
+    let p = le-mul-of-pos-right {m = suc k} size (omega arith) in
+    let e : suc size * suc k ≡ size * suc k + suc k = suc-mul size (suc k) in
+    let l = div-lt-iff-lt-mul {k = suc k} {x = size + (suc k - 1)} {y = suc size} (omega arith) .1 (omega arith) in
+    omega arith
 
 module _ (size each n : ℕ) where
   pub length-none : size ≤ n * each → blockLength size each n ≡ 0

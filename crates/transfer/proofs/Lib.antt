@@ -2,6 +2,7 @@ pub mod Bits
 pub mod BlockLaws
 pub mod Lengths
 pub mod Marks
+pub mod Counts
 pub mod Puts
 pub mod Stores
 pub mod Merges

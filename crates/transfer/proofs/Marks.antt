@@ -7,10 +7,10 @@ use native.Mathlib.Numerals.{sub-one}
 use native.Mathlib.Omega.{arith}
 use borrow.Author.Tests.{lt-ltb, le-ltb, ltb-true, ltb-false}
 use lib.Dec.{ltb}
-use lib.ListN.{length, getD, set, length-set}
+use lib.ListN.{length, getD, set, replicate, length-set, getD-replicate}
 use lib.Seq.{getD-set-same}
-use Rattle.transfer.specs.Bitmap.{bit, raised, held, marked, allHeld}
-use Rattle.transfer.proofs.Bits.{bit-raised, bit-raised-other, raised-swap}
+use Rattle.transfer.specs.Bitmap.{bit, raised, held, marked}
+use Rattle.transfer.proofs.Bits.{bit-raised, bit-raised-other, raised-swap, bit-none}
 
 -- the steps of the code
 module _ (map : List ℕ) (n : ℕ) where
@@ -29,21 +29,6 @@ module _ (map : List ℕ) (n : ℕ) where
   pub marked-beyond : 1024 ≤ n → marked map n ≡ map
   unfolding marked
   marked-beyond h = rw (le-ltb n 1024 h)
-
-pub all-none : (map : List ℕ) (n : ℕ) → n ≤ 0 → allHeld n map ≡ true
-unfolding allHeld
-all-none map zero h = refl
-all-none map (suc n) h = absurd (omega arith)
-
-pub all-more : (map : List ℕ) (n : ℕ) → 0 < n → held map (n - 1) ≡ true → allHeld n map ≡ allHeld (n - 1) map
-unfolding allHeld
-all-more map zero h e = absurd (omega arith)
-all-more map (suc n) h e = let g : held map n ≡ true = rw sub-one at e in rw (g, sub-one)
-
-pub all-missing : (map : List ℕ) (n : ℕ) → 0 < n → held map (n - 1) ≡ false → allHeld n map ≡ false
-unfolding allHeld
-all-missing map zero h e = absurd (omega arith)
-all-missing map (suc n) h e = let g : held map n ≡ false = rw sub-one at e in rw g
 
 -- a bit of the byte at i, read and set
 abbrev look : List ℕ → ℕ → ℕ → Bool
@@ -106,3 +91,10 @@ marked-swap map m n =
         marked-below (marked map m) n b
         ∙ rw (marked-below map m a, marked-below map n b) (mark-swap map (m / 8) (7 - m % 8) (n / 8) (7 - n % 8))
         ∙ sym (marked-below (marked map n) m a)
+
+-- an empty bitmap holds nothing
+pub held-none : (n : ℕ) → held (replicate 128 0) n ≡ false
+held-none n =
+    ranged n
+    (λ h. held-below (replicate 128 0) n h ∙ ap (bit (7 - n % 8)) (getD-replicate 128 (n / 8) 0 0 (omega arith)) ∙ bit-none (7 - n % 8))
+    (held-beyond (replicate 128 0) n)

@@ -8,12 +8,12 @@ use borrow.Author.Tests.{ltb-true, ltb-false, eqb-true, eqb-false}
 use lib.Dec.{eqb, ltb}
 use lib.ListN.{length, take, drop}
 use lib.Seq.{sets, length-sets}
-use Rattle.buffer.proofs.Tests.{split, both}
+use Rattle.buffer.proofs.Tests.{split}
 use Rattle.csmp.specs.declared.Image.{Image}
-use Rattle.transfer.specs.Bitmap.{held, marked, withBitmap}
+use Rattle.transfer.specs.Bitmap.{held, marked, oneMore, withHeld}
 use Rattle.transfer.specs.Block.{fitsAt, Flash, putBlock, Sound}
-use Rattle.transfer.specs.Blocks.{blocks, blockLength}
-use Rattle.transfer.proofs.BlockLaws.{put-unfit, put-held, put-new}
+use Rattle.transfer.proofs.BlockLaws.{fits-told, put-unfit, put-held, put-new}
+use Rattle.transfer.proofs.Counts.{counted-put}
 use Rattle.transfer.proofs.Lengths.{block-inside, lower-before}
 use Rattle.transfer.proofs.Marks.{length-marked, held-marked, held-other, marked-swap}
 use Rattle.transfer.proofs.Stores.{sets-swap, take-sets}
@@ -22,24 +22,16 @@ use Rattle.transfer.proofs.Stores.{sets-swap, take-sets}
 abbrev pub put : ℕ → List ℕ → Flash → Flash
 put n d f = putBlock (f .image) (f .bytes) n d
 
--- what fitting says
-pub fits-told : (i : Image) (n len : ℕ) → fitsAt i n len ≡ true
-    → (n < blocks (i .size) (i .«block_size»)) × (len ≡ blockLength (i .size) (i .«block_size») n)
+-- another bitmap is nothing to what fits
+fits-mapped : (i : Image) (map : List ℕ) (k n len : ℕ) → fitsAt (withHeld i map k) n len ≡ fitsAt i n len
 unfolding fitsAt
-fits-told i n len h =
-    let t = both (ltb n (blocks (i .size) (i .«block_size»))) (eqb len (blockLength (i .size) (i .«block_size») n)) h in
-    (ltb-true n (blocks (i .size) (i .«block_size»)) (t .0), eqb-true len (blockLength (i .size) (i .«block_size») n) (t .1))
-
--- another bitmap is nothing to it
-fits-mapped : (i : Image) (map : List ℕ) (n len : ℕ) → fitsAt (withBitmap i map) n len ≡ fitsAt i n len
-unfolding fitsAt
-fits-mapped i map n len = refl
+fits-mapped i map k n len = refl
 
 module _ (i : Image) (bs : List ℕ) (n : ℕ) (d : List ℕ) where
   -- a put changes nothing, or marks a block that fits and is missing, and writes it
   pub put-cases : (P : Flash → Type 0) → P (record { image = i; bytes = bs })
       → (fitsAt i n (length d) ≡ true → held (i .bitmap) n ≡ false
-      → P (record { image = withBitmap i (marked (i .bitmap) n); bytes = sets bs (n * i .«block_size») d })) → P (putBlock i bs n d)
+      → P (record { image = withHeld i (marked (i .bitmap) n) (oneMore (i .held)); bytes = sets bs (n * i .«block_size») d })) → P (putBlock i bs n d)
   put-cases P same new = go (fitsAt i n (length d)) refl (held (i .bitmap) n) refl
     where
       go : (t : Bool) → fitsAt i n (length d) ≡ t → (u : Bool) → held (i .bitmap) n ≡ u → P (putBlock i bs n d)
@@ -47,7 +39,7 @@ module _ (i : Image) (bs : List ℕ) (n : ℕ) (d : List ℕ) where
       go true h true g = subst P (sym (put-held i bs n d g)) same
       go true h false g = subst P (sym (put-new i bs n d h g)) (new h g)
 
-  -- of the image only the bitmap changes
+  -- of the image only the bitmap and its number change
   pub put-hash : putBlock i bs n d .image .hash ≡ i .hash
   put-hash = put-cases (λ (f : Flash). f .image .hash ≡ i .hash) refl (λ h g. refl)
 
@@ -80,6 +72,7 @@ module _ (i : Image) (bs : List ℕ) (n : ℕ) (d : List ℕ) where
           numbered = s .numbered;
           room = rw (length-sets bs (n * i .«block_size») d) (s .room);
           mapped = length-marked (i .bitmap) n ∙ s .mapped;
+          counted = counted-put i n (length d) (s .counted) (s .numbered) (s .mapped) h g;
         })
 
     module _ (h : fitsAt i n (length d) ≡ true) where
@@ -139,11 +132,11 @@ module _ (i : Image) (m : ℕ) (d : List ℕ) (n : ℕ) (e : List ℕ) where
       -- two puts of missing blocks
       both-new : (m ≡ n → ⊥) → held (i .bitmap) m ≡ false → held (i .bitmap) n ≡ false
           → put n e (putBlock i bs m d)
-          ≡ record { image = withBitmap i (marked (marked (i .bitmap) m) n); bytes = sets (sets bs (m * i .«block_size») d) (n * i .«block_size») e }
+          ≡ record { image = withHeld i (marked (marked (i .bitmap) m) n) (oneMore (oneMore (i .held))); bytes = sets (sets bs (m * i .«block_size») d) (n * i .«block_size») e }
       both-new o h k =
           let map = marked (i .bitmap) m in
           ap (put n e) (put-new i bs m d f h)
-          ∙ put-new (withBitmap i map) (sets bs (m * i .«block_size») d) n e (fits-mapped i map n (length e) ∙ g)
+          ∙ put-new (withHeld i map (oneMore (i .held))) (sets bs (m * i .«block_size») d) n e (fits-mapped i map (oneMore (i .held)) n (length e) ∙ g)
           (held-other (i .bitmap) n m (λ p. o (sym p)) ∙ k)
 
 module _ (i : Image) (bs : List ℕ) where

@@ -13,7 +13,7 @@ use Rattle.csmp.specs.declared.Image.{Image}
 use Rattle.find.specs.Find.{isText}
 use Rattle.protobuf.specs.Given.{numberGiven, bytesGiven}
 use Rattle.transfer.specs.Blocks.{blocks, blockLength}
-use Rattle.transfer.specs.Bitmap.{held, marked, withBitmap}
+use Rattle.transfer.specs.Bitmap.{held, marked, oneMore, Counted, withHeld}
 
 -- the number is in range, and the data has exactly the block's length
 unfoldable pub fitsAt : Image → ℕ → ℕ → Bool
@@ -24,20 +24,21 @@ pub record Flash : Type 0 where
   pub image : Image
   pub bytes : List ℕ
 
--- a fitting block not yet held is written into its stretch of the image buffer only; others change nothing
+-- a fitting block not yet held is written into its stretch of the image buffer only, and counted; others change nothing
 unfoldable pub putBlock : Image → List ℕ → ℕ → List ℕ → Flash
 putBlock i bs n dat =
     pick (fitsAt i n (length dat))
     (pick (held (i .bitmap) n) (record { image = i; bytes = bs })
-    (record { image = withBitmap i (marked (i .bitmap) n); bytes = sets bs (n * i .«block_size») dat }))
+    (record { image = withHeld i (marked (i .bitmap) n) (oneMore (i .held)); bytes = sets bs (n * i .«block_size») dat }))
     (record { image = i; bytes = bs })
 
--- an open image that the bitmap and the buffer have room for
+-- an open image that the bitmap and the buffer have room for, its blocks counted
 pub record Sound (i : Image) (bs : List ℕ) : Type 0 where
   pub blocked : 1 ≤ i .«block_size»
   pub numbered : blocks (i .size) (i .«block_size») ≤ 1024
   pub room : i .size ≤ length bs
   pub mapped : length (i .bitmap) ≡ 128
+  pub counted : Counted i
 
 -- the number and the data that an ImageBlock offers to the open image: its hash is the open one, and both are present
 pub record Offer : Type 0 where

@@ -10,7 +10,7 @@ use Rattle.buffer.specs.Pick.{pick}
 use Rattle.csmp.specs.declared.Image.{Image}
 use Rattle.protobuf.specs.Each.{Each}
 use Rattle.transfer.specs.Blocks.{blocks, blockLength}
-use Rattle.transfer.specs.Bitmap.{held, complete, withBitmap}
+use Rattle.transfer.specs.Bitmap.{held, complete, Numbered, withHeld}
 use Rattle.transfer.specs.Block.{Flash, Offer, Sound, fitsAt, putBlock}
 
 pub data Merge {A : Type 0} : List A → List A → List A → Type 0 where
@@ -51,8 +51,8 @@ abbrev pub isSome : {A : Type 0} → Option A → Bool
 isSome nothing = false
 isSome (some a) = true
 
--- what blocks put one after the other leave: held blocks are kept, new ones are in place with their bit, all else is as it was, and the
--- image is complete exactly when every number was held or came
+-- what blocks put one after the other leave: held blocks are kept, new ones are in place with their bit, the number held moves with the
+-- bits, all else is as it was, and the image is complete exactly when every block number was held or came
 pub record Ended (f : Flash) (os : List Offer) (e : Flash) : Type 0 where
   pub kept : (n : ℕ) → held (f .image .bitmap) n ≡ true
       → (held (e .image .bitmap) n ≡ true) × (blockAt (f .image) (e .bytes) n ≡ blockAt (f .image) (f .bytes) n)
@@ -60,7 +60,8 @@ pub record Ended (f : Flash) (os : List Offer) (e : Flash) : Type 0 where
       → (held (e .image .bitmap) n ≡ true) × (blockAt (f .image) (e .bytes) n ≡ bs)
   pub missing : (n : ℕ) → held (f .image .bitmap) n ≡ false → came (f .image) n os ≡ nothing
       → (held (e .image .bitmap) n ≡ false) × (blockAt (f .image) (e .bytes) n ≡ blockAt (f .image) (f .bytes) n)
-  pub image : e .image ≡ withBitmap (f .image) (e .image .bitmap)
+  pub number : Numbered (e .image)
+  pub image : e .image ≡ withHeld (f .image) (e .image .bitmap) (e .image .held)
   pub behind : drop (f .image .size) (e .bytes) ≡ drop (f .image .size) (f .bytes)
   pub long : length (e .bytes) ≡ length (f .bytes)
   pub done : complete (e .image) ≡ true → (n : ℕ) → n < blocks (f .image .size) (f .image .«block_size»)

@@ -1,7 +1,7 @@
 // The bitmap: block 0 is the top bit of the first byte.
 ghost use mathlib.Core.Path.{_≡_};
 ghost use Prim.Native.Nat.{_<_};
-ghost use Rattle.transfer.specs.Bitmap.{bit, raised, held, marked, allHeld};
+ghost use Rattle.transfer.specs.Bitmap.{bit, raised, held, marked};
 
 // Bit j of a byte, counted from the low end.
 fn bit_at(b: u8, j: u64) -> bool
@@ -49,18 +49,4 @@ pub fn hold(map: [u8; 128], n: u64) -> [u8; 128]
         return next;
     }
     map
-}
-
-// Whether the first `count` blocks are all held.
-pub fn all_held(map: [u8; 128], count: u64) -> bool
-    ensures { λ r. ⌜ r ≡ allHeld count map ⌝ }
-{
-    let mut left = count;
-    while 0 < left {
-        if !is_held(map, left - 1) {
-            return false;
-        }
-        left -= 1;
-    }
-    true
 }

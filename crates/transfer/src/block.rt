@@ -42,6 +42,7 @@ fn put_block(image: Image, flash: &mut [u8], n: u32, bytes: &[u8]) -> Image
     let marked = bitmap::hold(map, n as u64);
     let mut next = image;
     next.bitmap = marked;
+    next.held = std::num::wrapping_add_u32(image.held, 1);
     next
 }
 

@@ -6,7 +6,14 @@ pub use block::take_block;
 use csmp::Image;
 ghost use mathlib.Core.Path.{_≡_};
 ghost use Rattle.transfer.specs.Blocks.{blocks, blockLength};
-ghost use Rattle.transfer.specs.Bitmap.{complete};
+ghost use Rattle.transfer.specs.Bitmap.{complete, progressOf};
+
+// How far a download is: blocks held, blocks in all, and whether none is missing.
+pub struct Progress {
+    pub held: u32,
+    pub blocks: u32,
+    pub complete: bool,
+}
 
 // How many blocks a file has: its size by the block size, rounded up.
 pub fn block_count(size: u32, block_size: u32) -> u64
@@ -32,10 +39,21 @@ fn block_len(size: u32, block_size: u32, n: u32) -> u64
     if each < rest { each } else { rest }
 }
 
-// Whether no block of the open image is missing.
+// Whether no block of the open image is missing: as many are held as there are.
 pub fn is_complete(image: Image) -> bool
     ensures { λ r. ⌜ r ≡ complete image ⌝ }
 {
-    let map = image.bitmap;
-    bitmap::all_held(map, block_count(image.size, image.block_size))
+    image.held as u64 == block_count(image.size, image.block_size)
+}
+
+// How far the download of the open image is.
+pub fn progress_of(image: Image) -> Progress
+    ensures { λ r. ⌜ r ≡ progressOf image ⌝ }
+{
+    let blocks = block_count(image.size, image.block_size);
+    Progress {
+        held: image.held,
+        blocks: blocks as u32,
+        complete: image.held as u64 == blocks,
+    }
 }

@@ -125,6 +125,7 @@ fn open() {
         size: 2500,
         block_size: 1000,
         bitmap,
+        held: 2,
     };
     let n = encode_image::put_open(&mut out, 0, image, 1, Moment::Absent);
     made(&out, n);

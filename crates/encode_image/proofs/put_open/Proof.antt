@@ -32,7 +32,7 @@ bitmap-sized s = search needs
 
 -- what the record holds
 abbrev fields : tie.Start → List ℕ
-fields s = openValue (s .args .image) (s .args .held) (s .args .time)
+fields s = openValue (s .args .image) (s .args .map-len) (s .args .time)
 
 -- the entry, seen from behind the puts
 abbrev start : tie.After-put-arg → tie.Start
@@ -69,7 +69,7 @@ value x =
     (upto (bytes-if-most 4 32 (version .given) (take (version .len) (version .bytes)) (take-most (version .len) 32 (version .bytes) (version-sized s)))
     (upto (number-most 5 _)
     (upto (number-most 6 _)
-    (upto (bytes-most 7 128 _ (take-most (s .args .held) 128 (s .args .image .bitmap) (bitmap-sized s)))
+    (upto (bytes-most 7 128 _ (take-most (s .args .map-len) 128 (s .args .image .bitmap) (bitmap-sized s)))
     (upto (number-if-most 10 (numberGiven (momentNumber (s .args .time))))
     nil))))))))
     (lit≤ tt)

@@ -2,6 +2,7 @@
 use mathlib.Core.Path.{sym, _∙_}
 use native.Mathlib.Omega.{arith}
 use borrow.Author.Tests.{not-true, not-false}
+use Rattle.transfer.specs.Bitmap.{oneMore}
 use Rattle.transfer.proofs.BlockLaws.{left-by, put-unfit, put-held, left-new}
 use Rattle.transfer.proofs.Lengths.{product-small}
 use borrow.Author.Needs.{needs}
@@ -34,15 +35,20 @@ copy-block-requires c κs = search needs
 hold-requires : tie.Need-hold-requires
 hold-requires c κs = search needs
 
+wrapping-add-u32-requires : tie.Need-wrapping-add-u32-requires
+wrapping-add-u32-requires c κs = search needs
+
 same-length : tie.Need-same-length
 same-length c = search needs
 
 returns-3 : tie.Need-returns-3
+unfolding oneMore
 returns-3 c =
-    let x = c .before .before .before .before .before .before in
+    let x = c .before .before .before .before .before .before .before in
     let a = x .before .before .before .before .before .before .before .args in
     left-new (a .image) (a .flash .now) (a .n) (a .bytes .now) (sym (x .before .before .before .before .fits-at .ensures) ∙ not-false _ (x .before .before .before .if1 .left))
-    (sym (x .before .is-held .ensures) ∙ x .if2 .left) (c .hold .ensures) (c .before .before .before .copy-block .ensures)
+    (sym (x .before .is-held .ensures) ∙ x .if2 .left) (c .before .hold .ensures) (c .wrapping-add-u32 .ensures)
+    (c .before .before .before .before .copy-block .ensures)
 
 pub put-block-spec : {M : Type 1} → statement M
 put-block-spec =
@@ -56,5 +62,6 @@ put-block-spec =
     mul-start
     copy-block-requires
     hold-requires
+    wrapping-add-u32-requires
     same-length
     returns-3)
