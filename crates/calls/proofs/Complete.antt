@@ -9,22 +9,22 @@ use Rattle.state.specs.declared.Device.{Device}
 use Rattle.state.specs.declared.Images.{Images}
 use Rattle.state.specs.declared.setup.Settings.{Settings}
 use Rattle.state.specs.declared.setup.Setup.{Setup}
-use Rattle.transfer.specs.Bitmap.{noneMissing, complete, Numbered}
+use Rattle.transfer.specs.Bitmap.{noneMissing, complete, CountsOnes}
 use Rattle.transfer.proofs.Counts.{ones-none, compares}
 use Rattle.calls.specs.Complete.{completeIn, NumberHeld, CompleteWalked}
 use Rattle.calls.specs.Made.{ImagesSized}
 use Rattle.calls.proofs.Sizes.{made-sized, world-sized, ran-sized}
 
 -- a refused setup's state has no image either
-setup-numbered : (hw vendor running url : List ℕ) (s : Settings) → Numbered (setupOf hw vendor running url s .state .images .image)
+setup-counts : (hw vendor running url : List ℕ) (s : Settings) → CountsOnes (setupOf hw vendor running url s .state .images .image)
 unfolding setupOf blankState firstState
-setup-numbered hw vendor running url s =
-    pick-both (λ (x : Setup). Numbered (x .state .images .image)) (validTexts hw vendor running url) _ _
-    (λ h. pick-both (λ (x : Setup). Numbered (x .state .images .image)) (validSettings s) _ _ (λ g. sym ones-none) (λ g. sym ones-none))
+setup-counts hw vendor running url s =
+    pick-both (λ (x : Setup). CountsOnes (x .state .images .image)) (validTexts hw vendor running url) _ _
+    (λ h. pick-both (λ (x : Setup). CountsOnes (x .state .images .image)) (validSettings s) _ _ (λ g. sym ones-none) (λ g. sym ones-none))
     (λ h. sym ones-none)
 
 pub number-held : NumberHeld
-number-held = record { setup = setup-numbered; made = λ s m. made-sized s m .images .number }
+number-held = record { setup = setup-counts; made = λ s m. made-sized s m .images .number }
 
 walked : (d : Device) (i : Images) → ImagesSized d i → i .«open» ≡ true → complete (i .image) ≡ noneMissing (i .image)
 walked d i s o = compares (i .image) (record { number = s .number; spare = s .opened o .spare })

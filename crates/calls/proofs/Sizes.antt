@@ -52,7 +52,7 @@ use Rattle.state.specs.declared.State.{State}
 use Rattle.state.specs.declared.setup.Settings.{Settings}
 use Rattle.state.specs.declared.setup.Setup.{Setup}
 use Rattle.tlv.specs.Record.{Tlv, records}
-use Rattle.transfer.specs.Bitmap.{Numbered, Counted}
+use Rattle.transfer.specs.Bitmap.{CountsOnes, Counted}
 use Rattle.transfer.specs.Block.{Flash, Offer, offered, putBlock, putOffer, takeBlock}
 use Rattle.transfer.specs.Blocks.{blocks}
 use Rattle.transfer.proofs.BlockLaws.{fits-told}
@@ -134,9 +134,9 @@ version-short v (At start stop) h = omega (arith, length-take (stop - start) (dr
 version-short v Absent h = omega arith
 
 -- record 65: an image begins with no block held
-opened-numbered : (v : List ℕ) (t : Transfer) (size each : ℕ) → Numbered (openedBy v t size each)
+opened-counts : (v : List ℕ) (t : Transfer) (size each : ℕ) → CountsOnes (openedBy v t size each)
 unfolding openedBy
-opened-numbered v t size each = sym ones-none
+opened-counts v t size each = sym ones-none
 
 -- what a request without a fault has
 module _ (d : Device) (size each : ℕ) where
@@ -189,7 +189,7 @@ module _ (d : Device) (i : Images) (s : ImagesSized d i) where
   abbrev Answers : Answered → Type 0
   Answers a = ImagesSized d (a .images)
 
-  opens-sized : (m : Image) → OpenSized d m → Numbered m → Answers (opens i m)
+  opens-sized : (m : Image) → OpenSized d m → CountsOnes m → Answers (opens i m)
   unfolding opens replaced
   opens-sized m o n =
       pick-both Answers (isOpen i (m .hash)) _ _ (λ h. s)
@@ -203,7 +203,7 @@ module _ (d : Device) (i : Images) (s : ImagesSized d i) where
       let each = numberOr0 (t .«block_size») in
       pick-both Answers (isWhole t) _ _
       (λ w. pick-both Answers (eqb (faultOf d i v t size each) 0) _ _
-      (λ e. opens-sized (openedBy v t size each) (opened-sized d i v t size each w refl (eqb-true (faultOf d i v t size each) 0 e)) (opened-numbered v t size each)) (λ e. s)) (λ w. s)
+      (λ e. opens-sized (openedBy v t size each) (opened-sized d i v t size each w refl (eqb-true (faultOf d i v t size each) 0 e)) (opened-counts v t size each)) (λ e. s)) (λ w. s)
 
   -- records 68 to 70
   pending-sized : (hash : List ℕ) (is : Bool) (time : Point) → length hash ≡ 32
@@ -269,21 +269,21 @@ module _ (d : Device) (i : Image) (bs : List ℕ) (s : OpenSized d i) where
   take-sized v = offer-sized (offered i v)
 
   -- the number moves with the bits
-  sized-counted : Numbered i → Counted i
+  sized-counted : CountsOnes i → Counted i
   sized-counted n = record { number = n; spare = s .spare }
 
-  put-numbered : Numbered i → (n : ℕ) (dat : List ℕ) → Numbered (putBlock i bs n dat .image)
-  put-numbered k n dat =
-      put-cases i bs n dat (λ (f : Flash). Numbered (f .image)) k
+  put-counts : CountsOnes i → (n : ℕ) (dat : List ℕ) → CountsOnes (putBlock i bs n dat .image)
+  put-counts k n dat =
+      put-cases i bs n dat (λ (f : Flash). CountsOnes (f .image)) k
       (λ h g. counted-put i n (length dat) (sized-counted k) (s .count) (s .bitmap) h g .number)
 
-  offer-numbered : Numbered i → (o : Option Offer) → Numbered (putOffer i bs o .image)
-  offer-numbered k none = k
-  offer-numbered k (some o) = put-numbered k (o .number) (o .bytes)
+  offer-counts : CountsOnes i → (o : Option Offer) → CountsOnes (putOffer i bs o .image)
+  offer-counts k none = k
+  offer-counts k (some o) = put-counts k (o .number) (o .bytes)
 
-  take-numbered : Numbered i → (v : List ℕ) → Numbered (takeBlock i bs v .image)
+  take-counts : CountsOnes i → (v : List ℕ) → CountsOnes (takeBlock i bs v .image)
   unfolding takeBlock
-  take-numbered k v = offer-numbered k (offered i v)
+  take-counts k v = offer-counts k (offered i v)
 
 -- what records may change
 pub record WorldSized (d : Device) (w : World) : Type 0 where
@@ -308,7 +308,7 @@ module _ (d : Device) (sized : DeviceSized d) where
             record {
               running = i .running;
               opened = λ e. take-sized d (w .images .image) (w .flash) (i .opened o) v;
-              number = take-numbered d (w .images .image) (w .flash) (i .opened o) (i .number) v;
+              number = take-counts d (w .images .image) (w .flash) (i .opened o) (i .number) v;
               pending = i .pending;
               backup = i .backup;
             };

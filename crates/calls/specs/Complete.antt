@@ -11,7 +11,7 @@ use Rattle.state.specs.Setup.{setupOf}
 use Rattle.state.specs.declared.State.{State}
 use Rattle.state.specs.declared.setup.Settings.{Settings}
 use Rattle.tlv.specs.Record.{Tlv}
-use Rattle.transfer.specs.Bitmap.{noneMissing, complete, progressOf, Numbered}
+use Rattle.transfer.specs.Bitmap.{noneMissing, complete, progressOf, CountsOnes}
 use Rattle.transfer.specs.declared.Progress.{Progress}
 use Rattle.calls.specs.Datagram.{worldIn}
 use Rattle.calls.specs.Made.{Made}
@@ -26,8 +26,8 @@ progressIn s = pick (s .images .«open») (progressOf (s .images .image)) (recor
 
 -- the number held is that of the ones after every setup, a refused one too, and every call, whether an image is open or not
 pub record NumberHeld : Type 0 where
-  pub setup : (hw vendor running url : List ℕ) (s : Settings) → Numbered (setupOf hw vendor running url s .state .images .image)
-  pub made : (s : State) → Made s → Numbered (s .images .image)
+  pub setup : (hw vendor running url : List ℕ) (s : Settings) → CountsOnes (setupOf hw vendor running url s .state .images .image)
+  pub made : (s : State) → Made s → CountsOnes (s .images .image)
 
 -- complete by comparison is complete by walking, as document 01 works it out each time: on made states, and between the records of a payload
 -- that is run on one

@@ -14,7 +14,7 @@ use Rattle.state.specs.declared.Images.{Images}
 use Rattle.state.specs.declared.Registration.{Registration}
 use Rattle.state.specs.declared.State.{State}
 use Rattle.state.specs.declared.setup.Settings.{Settings}
-use Rattle.transfer.specs.Bitmap.{held, Numbered}
+use Rattle.transfer.specs.Bitmap.{held, CountsOnes}
 use Rattle.transfer.specs.Blocks.{blocks}
 use Rattle.calls.specs.Boot.{bootOf}
 use Rattle.calls.specs.Datagram.{Call, datagramOf}
@@ -56,7 +56,7 @@ pub record OpenSized (d : Device) (i : Image) : Type 0 where
 pub record ImagesSized (d : Device) (i : Images) : Type 0 where
   pub running : length (i .running) ≡ 32
   pub opened : i .«open» ≡ true → OpenSized d (i .image)
-  pub number : Numbered (i .image)
+  pub number : CountsOnes (i .image)
   pub pending : length (i .pending .hash) ≡ 32
   pub backup : length (i .backup .bytes) ≡ 32
 

@@ -1,14 +1,15 @@
 // Plays the lives of devices: each line on standard input is a call of the agent, printed again with what it answers.
 //
 // A life's calls go on from one state. Bytes are in hex, numbers decimal, `-` is none. A line `store` holds a store for
-// calls that say `store=held`. Some lines only look: `image` at the open image, `progress` at how far it is, `complete` at whether
-// none is missing, `look` at the URL held and the front of the image buffer. Other lines are printed as they are. No answer
-// was taken from this program: they are those of models written from documents 01 and 02. The first lives came with the
-// order (waits, rounds, acknowledgements, redirects, reports, loads, boots; signed responses; refusals; setups at their
-// limits; each request's own; random calls). Then come transfers and questions, whose datagrams were made by a script: blocks by multicast and again to a
-// straggler, repeated with other bytes, out of order, damaged; steps a to i, refusals and resets; every answer to
-// records 65 and 68 to 70; TlvIndex, ids by path and by query, copied spellings, replies of 1,280 bytes and one more;
-// stores at their limits; record 75 in every state of the images; groups and reports as acknowledgements assign them.
+// calls that say `store=held`. Some lines only look: `image` at the open image, `progress` at how far it is, `complete`
+// at whether none of its blocks is missing, `look` at the URL held and the front of the image buffer. Other lines are
+// printed as they are. No answer was taken from this program: they are those of models written from documents 01 and 02.
+// The first lives came with the order (waits, rounds, acknowledgements, redirects, reports, loads, boots; signed
+// responses; refusals; setups at their limits; each request's own; random calls). Then come transfers and questions, whose
+// datagrams were made by a script: blocks by multicast and again to a straggler, repeated with other bytes, out of order,
+// damaged; steps a to i, refusals and resets; every answer to records 65 and 68 to 70; TlvIndex, ids by path and by
+// query, copied spellings, replies of 1,280 bytes and one more; stores at their limits; record 75 in every state of the
+// images; groups and reports as acknowledgements assign them.
 mod show;
 mod text;
 

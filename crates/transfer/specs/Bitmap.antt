@@ -54,12 +54,12 @@ unfoldable pub progressOf : Image → Progress
 progressOf i = record { held = i .held; blocks = blocks (i .size) (i .«block_size»); complete = complete i }
 
 -- the number held is that of the ones in the bitmap
-abbrev pub Numbered : Image → Type 0
-Numbered i = i .held ≡ onesBelow 1024 (i .bitmap)
+abbrev pub CountsOnes : Image → Type 0
+CountsOnes i = i .held ≡ onesBelow 1024 (i .bitmap)
 
--- and spare bits are 0
+-- the same, and spare bits are 0
 pub record Counted (i : Image) : Type 0 where
-  pub number : Numbered i
+  pub number : CountsOnes i
   pub spare : (n : ℕ) → blocks (i .size) (i .«block_size») ≤ n → held (i .bitmap) n ≡ false
 
 -- the image with another bitmap and another number held

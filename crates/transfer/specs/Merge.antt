@@ -10,7 +10,7 @@ use Rattle.buffer.specs.Pick.{pick}
 use Rattle.csmp.specs.declared.Image.{Image}
 use Rattle.protobuf.specs.Each.{Each}
 use Rattle.transfer.specs.Blocks.{blocks, blockLength}
-use Rattle.transfer.specs.Bitmap.{held, complete, Numbered, withHeld}
+use Rattle.transfer.specs.Bitmap.{held, complete, CountsOnes, withHeld}
 use Rattle.transfer.specs.Block.{Flash, Offer, Sound, fitsAt, putBlock}
 
 pub data Merge {A : Type 0} : List A → List A → List A → Type 0 where
@@ -60,7 +60,7 @@ pub record Ended (f : Flash) (os : List Offer) (e : Flash) : Type 0 where
       → (held (e .image .bitmap) n ≡ true) × (blockAt (f .image) (e .bytes) n ≡ bs)
   pub missing : (n : ℕ) → held (f .image .bitmap) n ≡ false → came (f .image) n os ≡ nothing
       → (held (e .image .bitmap) n ≡ false) × (blockAt (f .image) (e .bytes) n ≡ blockAt (f .image) (f .bytes) n)
-  pub number : Numbered (e .image)
+  pub number : CountsOnes (e .image)
   pub image : e .image ≡ withHeld (f .image) (e .image .bitmap) (e .image .held)
   pub behind : drop (f .image .size) (e .bytes) ≡ drop (f .image .size) (f .bytes)
   pub long : length (e .bytes) ≡ length (f .bytes)

@@ -3,8 +3,8 @@ use Prim.Native.Nat.{ℕ}
 use mathlib.Core.Path.{_≡_}
 use mathlib.Core.List.{List, [], _∷_, map}
 use lib.ListN.{getD, replicate}
-use Rattle.transfer.specs.Blocks.{blocks, blockLength}
 use Rattle.csmp.specs.declared.Image.{Image}
+use Rattle.transfer.specs.Blocks.{blocks, blockLength}
 use Rattle.transfer.specs.Bitmap.{marked, noneMissing, complete, Counted}
 
 -- document 02, Q-2: where the number held is that of the ones and spare bits are 0, the comparison says what the walk says

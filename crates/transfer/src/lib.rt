@@ -39,14 +39,7 @@ fn block_len(size: u32, block_size: u32, n: u32) -> u64
     if each < rest { each } else { rest }
 }
 
-// Whether no block of the open image is missing: as many are held as there are.
-pub fn is_complete(image: Image) -> bool
-    ensures { λ r. ⌜ r ≡ complete image ⌝ }
-{
-    image.held as u64 == block_count(image.size, image.block_size)
-}
-
-// How far the download of the open image is.
+// How far the download of the open image is: complete where as many blocks are held as there are.
 pub fn progress_of(image: Image) -> Progress
     ensures { λ r. ⌜ r ≡ progressOf image ⌝ }
 {
@@ -56,4 +49,12 @@ pub fn progress_of(image: Image) -> Progress
         blocks: blocks as u32,
         complete: image.held as u64 == blocks,
     }
+}
+
+// Whether no block of the open image is missing.
+pub fn is_complete(image: Image) -> bool
+    ensures { λ r. ⌜ r ≡ complete image ⌝ }
+{
+    let told = progress_of(image);
+    told.complete
 }
