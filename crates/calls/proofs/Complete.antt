@@ -13,7 +13,7 @@ use Rattle.transfer.specs.Bitmap.{noneMissing, complete, CountsOnes}
 use Rattle.transfer.proofs.Counts.{ones-none, compares}
 use Rattle.calls.specs.Complete.{completeIn, NumberHeld, CompleteWalked}
 use Rattle.calls.specs.Made.{ImagesSized}
-use Rattle.calls.proofs.Sizes.{made-sized, world-sized, ran-sized}
+use Rattle.calls.proofs.Sizes.{open-counted, made-sized, world-sized, ran-sized}
 
 -- a refused setup's state has no image either
 setup-counts : (hw vendor running url : List ℕ) (s : Settings) → CountsOnes (setupOf hw vendor running url s .state .images .image)
@@ -27,7 +27,7 @@ pub number-held : NumberHeld
 number-held = record { setup = setup-counts; made = λ s m. made-sized s m .images .number }
 
 walked : (d : Device) (i : Images) → ImagesSized d i → i .«open» ≡ true → complete (i .image) ≡ noneMissing (i .image)
-walked d i s o = compares (i .image) (record { number = s .number; spare = s .opened o .spare })
+walked d i s o = compares (i .image) (open-counted d i s o)
 
 pub complete-walked : CompleteWalked
 unfolding completeIn

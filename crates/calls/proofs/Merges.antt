@@ -30,7 +30,6 @@ use Rattle.step.specs.Step.{World, withFlash, blockTaken, act}
 use Rattle.state.specs.declared.Device.{Device}
 use Rattle.state.specs.declared.Registration.{Registration}
 use Rattle.tlv.specs.Record.{Tlv}
-use Rattle.transfer.specs.Bitmap.{Counted}
 use Rattle.transfer.specs.Block.{Flash, Offer, offered, putBlock, takeBlock}
 use Rattle.transfer.specs.Merge.{Merge, none as nothing, first, second, putAll, Ended}
 use Rattle.transfer.proofs.Puts.{put-hash, put-length}
@@ -39,7 +38,7 @@ use Rattle.transfer.proofs.Ends.{ends, ends-none}
 use Rattle.class.specs.Class.{isRequest, classOf}
 use Rattle.calls.specs.Datagram.{Call, Effect, Served, refusal, worldIn, withWorld, servedPost, servedAs, served, replied, classed, received, datagramOf}
 use Rattle.calls.specs.Made.{Sized}
-use Rattle.calls.proofs.Sizes.{made-sized}
+use Rattle.calls.proofs.Sizes.{open-counted, made-sized}
 use Rattle.calls.specs.Merge.{Kept, after, afterAll, runsJudged, runsAsked, runsClassed, runsFramed, runs, steers, anySteers, framesPost, feeds, Feed, withOffer, offers, brought, flashOf, keptWith, Demand3}
 use Rattle.class.specs.declared.Class.{Class}
 use Rattle.class.specs.declared.Class.the-variants.{Request, Acknowledgement, Rejected, Ignored}
@@ -308,7 +307,7 @@ ended : (k : Kept) (zs : List Call) → Sized (k .state) → k .state .images .�
 unfolding putAll
 ended k zs s o =
     let i = s .images .opened o in
-    let c : Counted (k .state .images .image) = record { number = s .images .number; spare = i .spare } in
+    let c = open-counted (k .state .device) (k .state .images) (s .images) o in
     split (eqb (length (k .image)) (k .state .device .«image_len»))
     (λ e. let l = eqb-true (length (k .image)) (k .state .device .«image_len») e in
     ends (flashOf k) (brought k zs)

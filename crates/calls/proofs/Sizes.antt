@@ -1,13 +1,13 @@
 -- Every state that setup and calls make is sized.
-use Prim.Native.Nat.{ℕ, zero, suc, _-_, _/_, _%_, _≤_}
-use mathlib.Core.Path.{_≡_, refl, sym, ap, _∙_}
+use Prim.Native.Nat.{ℕ, _-_, _≤_}
+use mathlib.Core.Path.{_≡_, refl, sym, _∙_}
 use mathlib.Core.List.{List, [], _∷_}
 use mathlib.Core.Bool.{Bool, true, false, not, _&&_, _||_, true≢false}
 use mathlib.Core.Option.{Option, none, some}
 use native.Mathlib.Omega.{arith}
-use borrow.Author.Tests.{ltb-true, ltb-false, leb-true, eqb-true, eqb-false, not-true}
+use borrow.Author.Tests.{ltb-false, leb-true, eqb-true, eqb-false, not-true}
 use lib.Dec.{eqb, ltb, leb}
-use lib.ListN.{length, take, drop, getD, replicate, getD-replicate, length-take}
+use lib.ListN.{length, take, drop, replicate, length-take}
 use lib.Seq.{length-sets}
 use Rattle.buffer.proofs.Tests.{pick-both, both, neither}
 use Rattle.buffer.specs.Same.{sameBytes}
@@ -55,9 +55,8 @@ use Rattle.tlv.specs.Record.{Tlv, records}
 use Rattle.transfer.specs.Bitmap.{CountsOnes, Counted}
 use Rattle.transfer.specs.Block.{Flash, Offer, offered, putBlock, putOffer, takeBlock}
 use Rattle.transfer.specs.Blocks.{blocks}
-use Rattle.transfer.proofs.BlockLaws.{fits-told}
 use Rattle.transfer.proofs.Counts.{ones-none, counted-put}
-use Rattle.transfer.proofs.Marks.{length-marked, held-other, held-none}
+use Rattle.transfer.proofs.Marks.{length-marked, held-none}
 use Rattle.transfer.proofs.Puts.{put-cases}
 use Rattle.calls.specs.Boot.{bootOf}
 use Rattle.class.specs.Class.{classOf}
@@ -245,45 +244,37 @@ module _ (d : Device) (i : Images) (s : ImagesSized d i) where
       (λ p. record { running = s .running; opened = s .opened; number = s .number; pending = s .pending; backup = hash-long v (hashOf v .hash) })) (λ o. s)) (λ h. s)
 
 -- record 67
-module _ (d : Device) (i : Image) (bs : List ℕ) (s : OpenSized d i) where
-  put-sized : (n : ℕ) (dat : List ℕ) → OpenSized d (putBlock i bs n dat .image)
-  put-sized n dat =
-      put-cases i bs n dat (λ (f : Flash). OpenSized d (f .image)) s
-      (λ h g. record {
-        hash = s .hash;
-        name = s .name;
-        version = s .version;
-        size = s .size;
-        each = s .each;
-        count = s .count;
-        bitmap = length-marked (i .bitmap) n ∙ s .bitmap;
-        spare = λ m k. held-other (i .bitmap) m n (λ e. let t = fits-told i n (length dat) h in omega arith) ∙ s .spare m k;
-      })
+module _ (d : Device) (i : Image) (bs : List ℕ) (s : OpenSized d i) (c : Counted i) where
+  abbrev BlocksSized : Image → Type 0
+  BlocksSized j = OpenSized d j × CountsOnes j
 
-  offer-sized : (o : Option Offer) → OpenSized d (putOffer i bs o .image)
-  offer-sized none = s
+  put-sized : (n : ℕ) (dat : List ℕ) → BlocksSized (putBlock i bs n dat .image)
+  put-sized n dat =
+      put-cases i bs n dat (λ (f : Flash). BlocksSized (f .image)) (s, c .number)
+      (λ h g. let p = counted-put i n (length dat) c (s .count) (s .bitmap) h g in (
+        record {
+          hash = s .hash;
+          name = s .name;
+          version = s .version;
+          size = s .size;
+          each = s .each;
+          count = s .count;
+          bitmap = length-marked (i .bitmap) n ∙ s .bitmap;
+          spare = p .spare;
+        },
+        p .number,
+      ))
+
+  offer-sized : (o : Option Offer) → BlocksSized (putOffer i bs o .image)
+  offer-sized none = (s, c .number)
   offer-sized (some o) = put-sized (o .number) (o .bytes)
 
-  take-sized : (v : List ℕ) → OpenSized d (takeBlock i bs v .image)
+  take-sized : (v : List ℕ) → BlocksSized (takeBlock i bs v .image)
   unfolding takeBlock
   take-sized v = offer-sized (offered i v)
 
-  -- the number moves with the bits
-  sized-counted : CountsOnes i → Counted i
-  sized-counted n = record { number = n; spare = s .spare }
-
-  put-counts : CountsOnes i → (n : ℕ) (dat : List ℕ) → CountsOnes (putBlock i bs n dat .image)
-  put-counts k n dat =
-      put-cases i bs n dat (λ (f : Flash). CountsOnes (f .image)) k
-      (λ h g. counted-put i n (length dat) (sized-counted k) (s .count) (s .bitmap) h g .number)
-
-  offer-counts : CountsOnes i → (o : Option Offer) → CountsOnes (putOffer i bs o .image)
-  offer-counts k none = k
-  offer-counts k (some o) = put-counts k (o .number) (o .bytes)
-
-  take-counts : CountsOnes i → (v : List ℕ) → CountsOnes (takeBlock i bs v .image)
-  unfolding takeBlock
-  take-counts k v = offer-counts k (offered i v)
+pub open-counted : (d : Device) (i : Images) → ImagesSized d i → i .«open» ≡ true → Counted (i .image)
+open-counted d i s o = record { number = s .number; spare = s .opened o .spare }
 
 -- what records may change
 pub record WorldSized (d : Device) (w : World) : Type 0 where
@@ -303,12 +294,13 @@ module _ (d : Device) (sized : DeviceSized d) where
   block-sized w v s =
       let i = s .images in
       pick-both (WorldSized d) (w .images .«open») _ _
-      (λ o. record {
+      (λ o. let t = take-sized d (w .images .image) (w .flash) (i .opened o) (open-counted d (w .images) i o) v in
+      record {
         images =
             record {
               running = i .running;
-              opened = λ e. take-sized d (w .images .image) (w .flash) (i .opened o) v;
-              number = take-counts d (w .images .image) (w .flash) (i .opened o) (i .number) v;
+              opened = λ e. t .0;
+              number = t .1;
               pending = i .pending;
               backup = i .backup;
             };
