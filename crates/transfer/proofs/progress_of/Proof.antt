@@ -1,5 +1,4 @@
 -- `transfer::progress_of` meets its contract: there are no more blocks than bytes, so their number has 32 bits.
-use mathlib.Core.Path.{_≡_}
 use native.Mathlib.Omega.{arith}
 use Rattle.transfer.specs.Bitmap.{complete, progressOf}
 use Rattle.transfer.proofs.Lengths.{blocks-most}
