@@ -3,14 +3,13 @@ use Prim.Native.Nat.{ℕ}
 use mathlib.Core.Path.{_≡_}
 use mathlib.Core.List.{List}
 use mathlib.Core.Bool.{Bool, true, false, not}
-use borrow.Author.Tests.{ne-eqb}
 use lib.Dec.{eqb}
 use Rattle.post.specs.Judge.{badlySigned}
 use Rattle.schedule.specs.declared.Point.{Point}
 use Rattle.state.specs.declared.Registration.{Registration}
 use Rattle.state.specs.declared.State.{State}
 use Rattle.learn.specs.Learn.{learntFrom}
-use Rattle.ack.specs.Take.{isAwaited, isTakable, withGroups, regrouped, acceptedBy, takenBy, acknowledged}
+use Rattle.ack.specs.Take.{isAwaited, isTakable, acceptedBy, takenBy, acknowledged}
 use Rattle.note.specs.declared.Learnt.{Learnt}
 
 -- whether it is taken
@@ -40,23 +39,18 @@ module _ (l : Learnt) (verdict : ℕ) (required : Bool) where
   unfolding isTakable
   takable-valid h k = rw (h, k)
 
-module _ (l : Learnt) where
-  pub regrouped-none : l .groups .count ≡ 0 → regrouped l ≡ l .assigned
-  unfolding regrouped
-  regrouped-none h = rw h
-
-  pub regrouped-some : (l .groups .count ≡ 0 → ⊥) → regrouped l ≡ withGroups (l .assigned) (l .groups)
-  unfolding regrouped
-  regrouped-some h = rw (ne-eqb (l .groups .count) 0 h)
-
 module _ (s : State) (l : Learnt) where
-  pub taken-accepted : l .redirected ≡ false → takenBy s l ≡ acceptedBy s l
-  unfolding takenBy
-  taken-accepted h = rw h
-
   pub taken-redirected : l .redirected ≡ true → takenBy s l ≡ record { device = s .device; images = s .images; assigned = s .assigned; registration = l .registration }
   unfolding takenBy
   taken-redirected h = rw h
+
+  pub taken-not : l .redirected ≡ false → l .«needs_ninth» ≡ true → takenBy s l ≡ s
+  unfolding takenBy
+  taken-not h k = rw (h, k)
+
+  pub taken-accepted : l .redirected ≡ false → l .«needs_ninth» ≡ false → takenBy s l ≡ acceptedBy s l
+  unfolding takenBy
+  taken-accepted h k = rw (h, k)
 
 module _ (s : State) (id : ℕ) (p : List ℕ) (time : Point) (verdict : ℕ) where
   pub ack-unawaited : isAwaited (s .registration) id ≡ false → acknowledged s id p time verdict ≡ s

@@ -1,4 +1,4 @@
--- When an acknowledgement is taken, and what it then does, document 01, "Registration and reports".
+-- When an acknowledgement is taken, and what it then does, document 01, "Registration and reports", as document 02, Q-3, amends it.
 use Prim.Native.Nat.{ℕ}
 use mathlib.Core.List.{List}
 use mathlib.Core.Bool.{Bool, true, not, _&&_}
@@ -6,8 +6,6 @@ use lib.Dec.{eqb}
 use Rattle.buffer.specs.Pick.{pick}
 use Rattle.post.specs.Judge.{badlySigned}
 use Rattle.schedule.specs.declared.Point.{Point}
-use Rattle.state.specs.declared.Assigned.{Assigned}
-use Rattle.state.specs.declared.Groups.{Groups}
 use Rattle.state.specs.declared.Registration.{Registration}
 use Rattle.state.specs.declared.State.{State}
 use Rattle.learn.specs.Learn.{learntFrom}
@@ -21,30 +19,13 @@ isAwaited r id = not (r .accepted) && (r .awaited && eqb (r .round) id)
 unfoldable pub isTakable : Learnt → ℕ → Bool → Bool
 isTakable l verdict required = l .readable && (not (badlySigned (l .signed) verdict required) && not (l .expired))
 
--- its complete GroupAssigns, if any, in order replace all groups held
-abbrev pub withGroups : Assigned → Groups → Assigned
-withGroups a g =
-    record {
-      groups = g;
-      «in_session» = a .«in_session»;
-      session = a .session;
-      reporting = a .reporting;
-      interval = a .interval;
-      ids = a .ids;
-      heartbeat = a .heartbeat;
-      «heartbeat_ids» = a .«heartbeat_ids»;
-    }
-
-unfoldable pub regrouped : Learnt → Assigned
-regrouped l = pick (eqb (l .groups .count) 0) (l .assigned) (withGroups (l .assigned) (l .groups))
-
 -- it is accepted, and any session, groups and report are stored
 unfoldable pub acceptedBy : State → Learnt → State
 acceptedBy s l =
     record {
       device = s .device;
       images = s .images;
-      assigned = regrouped l;
+      assigned = l .assigned;
       registration =
           record {
             accepted = true;
@@ -57,12 +38,12 @@ acceptedBy s l =
           };
     }
 
--- with a redirect only that is done, and registration restarts
+-- with a redirect only that is done, and registration restarts; one that has no redirect to do and would need a ninth group changes nothing
 unfoldable pub takenBy : State → Learnt → State
 takenBy s l =
     pick (l .redirected)
     (record { device = s .device; images = s .images; assigned = s .assigned; registration = l .registration })
-    (acceptedBy s l)
+    (pick (l .«needs_ninth») s (acceptedBy s l))
 
 -- all others change nothing
 unfoldable pub acknowledged : State → ℕ → List ℕ → Point → ℕ → State

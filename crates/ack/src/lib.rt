@@ -1,24 +1,10 @@
 // The acknowledgement of a registration: when it is taken, and what it then assigns, or where it redirects to.
 use note::Learnt;
 use schedule::Point;
-use state::Assigned;
 use state::Registration;
 use state::State;
 ghost use mathlib.Core.Path.{_≡_};
-ghost use Rattle.ack.specs.Take.{regrouped, isAwaited, isTakable, acceptedBy, takenBy, acknowledged};
-
-// Its groups, if it has any, replace all that were held.
-fn regroup(learnt: Learnt) -> Assigned
-    ensures { λ r. ⌜ r ≡ regrouped learnt ⌝ }
-{
-    let mut next = learnt.assigned;
-    let groups = learnt.groups;
-    if groups.count == 0 {
-        return next;
-    }
-    next.groups = groups;
-    next
-}
+ghost use Rattle.ack.specs.Take.{isAwaited, isTakable, acceptedBy, takenBy, acknowledged};
 
 // It answers the latest round, and registration is not accepted yet.
 fn is_awaited(registration: Registration, id: u16) -> bool
@@ -50,7 +36,7 @@ fn is_takable(learnt: Learnt, verdict: u8, required: bool) -> bool
 fn accept(state: State, learnt: Learnt) -> State
     ensures { λ r. ⌜ r ≡ acceptedBy state learnt ⌝ }
 {
-    let assigned = regroup(learnt);
+    let assigned = learnt.assigned;
     let mut registration = state.registration;
     registration.accepted = true;
     let mut next = state;
@@ -59,17 +45,20 @@ fn accept(state: State, learnt: Learnt) -> State
     next
 }
 
-// With a redirect only that is done.
+// With a redirect only that is done; without one, an acknowledgement that would need a ninth group changes nothing.
 fn take(state: State, learnt: Learnt) -> State
     ensures { λ r. ⌜ r ≡ takenBy state learnt ⌝ }
 {
-    if !learnt.redirected {
-        return accept(state, learnt);
+    if learnt.redirected {
+        let registration = learnt.registration;
+        let mut next = state;
+        next.registration = registration;
+        return next;
     }
-    let registration = learnt.registration;
-    let mut next = state;
-    next.registration = registration;
-    next
+    if learnt.needs_ninth {
+        return state;
+    }
+    accept(state, learnt)
 }
 
 // An ACK 2.03 with a message id: taken, or nothing changes.

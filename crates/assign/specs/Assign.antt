@@ -1,15 +1,21 @@
--- What a session and a report assign, document 01, "Registration and reports".
-use Prim.Native.Nat.{ℕ}
-use mathlib.Core.List.{List}
-use mathlib.Core.Bool.{true}
+-- What a session, a report and a GroupAssign assign, document 01, "Registration and reports", as document 02, Q-3, amends it.
+use Prim.Native.Nat.{ℕ, _+_}
+use mathlib.Core.List.{List, [], _∷_}
+use mathlib.Core.Bool.{true, false}
 use mathlib.Core.Option.{Option, none, some}
-use lib.ListN.{length, replicate}
+use lib.Dec.{eqb, leb, ltb}
+use lib.ListN.{length, replicate, set}
 use lib.Seq.{sets}
+use Rattle.buffer.specs.Pick.{pick}
 use Rattle.decode.specs.Read.{sessionOf}
 use Rattle.decode_report.specs.Report.{reportOf}
 use Rattle.csmp.specs.declared.SessionId.{SessionId}
 use Rattle.protobuf.specs.Given.{bytesGiven}
+use Rattle.state.specs.Groups.{heldPairs}
 use Rattle.state.specs.declared.Assigned.{Assigned}
+use Rattle.state.specs.declared.Groups.{Groups}
+use Rattle.state.specs.declared.Pair.{Pair}
+use Rattle.assign.specs.declared.Regrouped.{Regrouped}
 
 -- a session's id as the state holds it
 unfoldable pub sessionIdOf : List ℕ → SessionId
@@ -45,4 +51,38 @@ withReport a v =
       ids = reportOf v .ids;
       heartbeat = reportOf v .heartbeat;
       «heartbeat_ids» = reportOf v .«heartbeat_ids»;
+    }
+
+-- 55: where the pair of a type is held, or else the end of those held
+unfoldable pub placeIn : List Pair → ℕ → ℕ
+placeIn [] kind = 0
+placeIn (p ∷ ps) kind = pick (eqb (p .kind) kind) 0 (placeIn ps kind + 1)
+
+abbrev pub placeOf : Groups → ℕ → ℕ
+placeOf g kind = placeIn (heldPairs g) kind
+
+-- an assignment replaces the pair of its type, or is added at the end
+unfoldable pub withPair : Groups → ℕ → ℕ → Groups
+withPair g kind id =
+    record {
+      list = set (g .list) (placeOf g kind) (record { kind = kind; id = id });
+      count = pick (ltb (placeOf g kind) (g .count)) (g .count) (placeOf g kind + 1);
+    }
+
+-- 8 are held, and none of that type: a ninth group would be needed
+unfoldable pub regrouped : Groups → ℕ → ℕ → Regrouped
+regrouped g kind id =
+    pick (leb 8 (placeOf g kind)) (record { «needs_ninth» = true; groups = g }) (record { «needs_ninth» = false; groups = withPair g kind id })
+
+abbrev pub holding : Assigned → Groups → Assigned
+holding a g =
+    record {
+      groups = g;
+      «in_session» = a .«in_session»;
+      session = a .session;
+      reporting = a .reporting;
+      interval = a .interval;
+      ids = a .ids;
+      heartbeat = a .heartbeat;
+      «heartbeat_ids» = a .«heartbeat_ids»;
     }

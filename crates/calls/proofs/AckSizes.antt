@@ -8,10 +8,11 @@ use native.Mathlib.Omega.{arith}
 use borrow.Author.Tests.{leb-true, leb-false}
 use lib.Dec.{eqb, leb}
 use lib.ListN.{length, length-take}
-use Rattle.assign.specs.Assign.{sessionIdOf, inSession, withSession, withReport}
-use Rattle.note.specs.Note.{nothingLearnt, marked, redirectNoted, sessionNoted, reportNoted, pushed, grouped, withGroup, groupNoted, validityNoted, signatureNoted, noted}
+use Rattle.assign.specs.Assign.{sessionIdOf, inSession, withSession, withReport, placeOf, regrouped}
+use Rattle.assign.specs.declared.Regrouped.{Regrouped}
+use Rattle.note.specs.Note.{nothingLearnt, marked, redirectNoted, sessionNoted, reportNoted, withRegrouped, groupAssigned, grouped, withGroup, groupNoted, validityNoted, signatureNoted, noted}
 use Rattle.learn.specs.Learn.{learntOf, learntFrom}
-use Rattle.ack.specs.Take.{isAwaited, isTakable, regrouped, acceptedBy, takenBy, acknowledged}
+use Rattle.ack.specs.Take.{isAwaited, isTakable, acceptedBy, takenBy, acknowledged}
 use Rattle.note.specs.declared.Learnt.{Learnt}
 use Rattle.buffer.proofs.Tests.{pick-both, both}
 use Rattle.csmp.specs.Values.{atMost}
@@ -41,6 +42,7 @@ use Rattle.state.specs.declared.Device.{Device}
 use Rattle.state.specs.declared.Registration.{Registration}
 use Rattle.state.specs.declared.State.{State}
 use Rattle.tlv.specs.Record.{Tlv, records, readable}
+use Rattle.calls.proofs.Pairs.{with-pairs, with-few, with-differ}
 use Rattle.calls.specs.Made.{DeviceSized, AssignedSized, RegistrationSized, Sized}
 
 -- bytes over their size make a value unreadable
@@ -70,7 +72,7 @@ module _ (d : Device) (r : Registration) (k : DeviceSized d) (s : RegistrationSi
 in-session-sized : (a : Assigned) → AssignedSized a → (id : Option (List ℕ)) → IfAny (λ (l : List ℕ). length l ≤ 64) id → AssignedSized (inSession a id)
 unfolding sessionIdOf
 in-session-sized a s none h = s
-in-session-sized a s (some id) h = record { groups = s .groups; session = h; ids = s .ids; heartbeat = s .heartbeat }
+in-session-sized a s (some id) h = record { pairs = s .pairs; groups = s .groups; types = s .types; session = h; ids = s .ids; heartbeat = s .heartbeat }
 
 session-sized : (a : Assigned) → AssignedSized a → (v : List ℕ) → sessionOf v .readable ≡ true → AssignedSized (withSession a v)
 unfolding withSession sessionOf
@@ -111,56 +113,70 @@ module _ (v : List ℕ) (n : ℕ) where
 
 report-sized : (a : Assigned) → AssignedSized a → (v : List ℕ) → AssignedSized (withReport a v)
 unfolding withReport reportOf
-report-sized a s v = record { groups = s .groups; session = s .session; ids = few-listed v 2; heartbeat = few-listed v 4 }
+report-sized a s v =
+    record { pairs = s .pairs; groups = s .groups; types = s .types; session = s .session; ids = few-listed v 2; heartbeat = few-listed v 4 }
 
 -- what an acknowledgement says is sized as long as it can be read
-record LearntSized (d : Device) (l : Learnt) : Type 0 where
-  registration : RegistrationSized d (l .registration)
-  assigned : AssignedSized (l .assigned)
-  groups : l .groups .count ≤ 8
+pub record LearntSized (d : Device) (l : Learnt) : Type 0 where
+  pub registration : RegistrationSized d (l .registration)
+  pub assigned : AssignedSized (l .assigned)
 
-abbrev Learns : Device → Learnt → Type 0
+abbrev pub Learns : Device → Learnt → Type 0
 Learns d l = l .readable ≡ true → LearntSized d l
 
 module _ (d : Device) (k : DeviceSized d) where
   marked-sized : (l : Learnt) (b : Bool) → Learns d l → Learns d (marked l b)
   marked-sized l b h e =
       let s = h (both (l .readable) b e .0) in
-      record { registration = s .registration; assigned = s .assigned; groups = s .groups }
+      record { registration = s .registration; assigned = s .assigned }
 
   redirect-noted : (l : Learnt) (v : List ℕ) → Learns d l → Learns d (redirectNoted d l v)
   unfolding redirectNoted
   redirect-noted l v h e =
       let t = both (l .readable) (redirectOf v .readable) e in
       let s = h (t .0) in
-      record { registration = redirect-sized d (l .registration) k (s .registration) v (t .1); assigned = s .assigned; groups = s .groups }
+      record { registration = redirect-sized d (l .registration) k (s .registration) v (t .1); assigned = s .assigned }
 
   session-noted : (l : Learnt) (v : List ℕ) → Learns d l → Learns d (sessionNoted l v)
   unfolding sessionNoted
   session-noted l v h e =
       let t = both (l .readable) (sessionOf v .readable) e in
       let s = h (t .0) in
-      record { registration = s .registration; assigned = session-sized (l .assigned) (s .assigned) v (t .1); groups = s .groups }
+      record { registration = s .registration; assigned = session-sized (l .assigned) (s .assigned) v (t .1) }
 
   report-noted : (l : Learnt) (v : List ℕ) → Learns d l → Learns d (reportNoted l v)
   unfolding reportNoted
   report-noted l v h e =
       let s = h (both (l .readable) (reportOf v .readable) e .0) in
-      record { registration = s .registration; assigned = report-sized (l .assigned) (s .assigned) v; groups = s .groups }
+      record { registration = s .registration; assigned = report-sized (l .assigned) (s .assigned) v }
 
-  -- record 55: 8 groups and no more
-  pushed-sized : (l : Learnt) (kind id : ℕ) → Learns d l → Learns d (pushed l kind id)
-  unfolding pushed
-  pushed-sized l kind id h =
-      pick-both (Learns d) (leb 8 (l .groups .count)) _ _ (λ _. marked-sized l false h)
+  -- record 55: 8 groups and no more, each of its own type
+  assigned-sized : (l : Learnt) (kind id : ℕ) → Learns d l → Learns d (groupAssigned l kind id)
+  unfolding groupAssigned regrouped
+  assigned-sized l kind id h =
+      pick-both (Learns d) (leb 8 (l .«group_assigns»)) _ _ (λ _. marked-sized l false h)
+      (λ _. pick-both (λ (r : Regrouped). Learns d (withRegrouped l r)) (leb 8 (placeOf (l .assigned .groups) kind)) _ _
+      (λ _ e. let s = h e in record { registration = s .registration; assigned = s .assigned })
       (λ f e. let s = h e in
-      let g = leb-false 8 (l .groups .count) f in
-      record { registration = s .registration; assigned = s .assigned; groups = omega arith })
+      let a = s .assigned in
+      let g = l .assigned .groups in
+      record {
+        registration = s .registration;
+        assigned =
+            record {
+              pairs = with-pairs g kind id (a .pairs) (a .groups) f;
+              groups = with-few g kind id (a .pairs) (a .groups) f;
+              types = with-differ g kind id (a .pairs) (a .groups) f (a .types);
+              session = a .session;
+              ids = a .ids;
+              heartbeat = a .heartbeat;
+            };
+      }))
 
   grouped-sized : (l : Learnt) (kind id : Number) → Learns d l → Learns d (grouped l kind id)
   grouped-sized l NoNumber id h = h
   grouped-sized l (Given kind) NoNumber h = h
-  grouped-sized l (Given kind) (Given id) h = pushed-sized l kind id h
+  grouped-sized l (Given kind) (Given id) h = assigned-sized l kind id h
 
   group-noted : (l : Learnt) (v : List ℕ) → Learns d l → Learns d (groupNoted l v)
   unfolding groupNoted withGroup
@@ -171,15 +187,15 @@ module _ (d : Device) (k : DeviceSized d) where
   unfolding validityNoted
   validity-noted l v time h e =
       let s = h (both (l .readable) (validityOf v .readable) e .0) in
-      record { registration = s .registration; assigned = s .assigned; groups = s .groups }
+      record { registration = s .registration; assigned = s .assigned }
 
   signature-noted : (l : Learnt) (v : List ℕ) → Learns d l → Learns d (signatureNoted l v)
   unfolding signatureNoted
   signature-noted l v h e =
       let s = h (both (l .readable) (plain v) e .0) in
-      record { registration = s .registration; assigned = s .assigned; groups = s .groups }
+      record { registration = s .registration; assigned = s .assigned }
 
-  noted-sized : (time : Point) (l : Learnt) (n : ℕ) (v : List ℕ) → Learns d l → Learns d (noted d time l n v)
+  pub noted-sized : (time : Point) (l : Learnt) (n : ℕ) (v : List ℕ) → Learns d l → Learns d (noted d time l n v)
   unfolding noted
   noted-sized time l n v h =
       pick-both (Learns d) (eqb n 6) _ _ (λ _. redirect-noted l v h)
@@ -197,16 +213,14 @@ module _ (d : Device) (k : DeviceSized d) where
   from-sized : (r : Registration) (a : Assigned) (time : Point) (p : List ℕ) → RegistrationSized d r → AssignedSized a → Learns d (learntFrom d r a time p)
   unfolding learntFrom
   from-sized r a time p x y =
-      let h = learnt-sized time (nothingLearnt r a) (records p) (λ _. record { registration = x; assigned = y; groups = omega arith }) in
+      let h = learnt-sized time (nothingLearnt r a) (records p) (λ _. record { registration = x; assigned = y }) in
       pick-both (Learns d) (readable p) _ _ (λ _. h) (λ _. marked-sized (learntOf d time (nothingLearnt r a) (records p)) false h)
 
 -- an acknowledgement, taken or not
-regrouped-sized : (d : Device) (l : Learnt) → LearntSized d l → AssignedSized (regrouped l)
-unfolding regrouped
-regrouped-sized d l h =
-    let a = h .assigned in
-    pick-both AssignedSized (eqb (l .groups .count) 0) _ _ (λ _. a)
-    (λ _. record { groups = h .groups; session = a .session; ids = a .ids; heartbeat = a .heartbeat })
+pub takable-readable : (l : Learnt) (verdict : ℕ) (required : Bool) → isTakable l verdict required ≡ true → l .readable ≡ true
+unfolding isTakable
+takable-readable l verdict required h =
+    both (l .readable) (not (badlySigned (l .signed) verdict required) && not (l .expired)) h .0
 
 module _ (s : State) (sized : Sized s) where
   taken-sized : (l : Learnt) → LearntSized (s .device) l → Sized (takenBy s l)
@@ -214,17 +228,13 @@ module _ (s : State) (sized : Sized s) where
   taken-sized l h =
       pick-both Sized (l .redirected) _ _
       (λ _. record { device = sized .device; images = sized .images; assigned = sized .assigned; registration = h .registration })
+      (λ _. pick-both Sized (l .«needs_ninth») _ _ (λ _. sized)
       (λ _. record {
         device = sized .device;
         images = sized .images;
-        assigned = regrouped-sized (s .device) l h;
+        assigned = h .assigned;
         registration = record { url = sized .registration .url; interval = sized .registration .interval };
-      })
-
-  takable-readable : (l : Learnt) (verdict : ℕ) (required : Bool) → isTakable l verdict required ≡ true → l .readable ≡ true
-  unfolding isTakable
-  takable-readable l verdict required h =
-      both (l .readable) (not (badlySigned (l .signed) verdict required) && not (l .expired)) h .0
+      }))
 
   pub acknowledged-sized : (id : ℕ) (p : List ℕ) (time : Point) (verdict : ℕ) → Sized (acknowledged s id p time verdict)
   unfolding acknowledged

@@ -2,5 +2,6 @@ pub mod Datagram
 pub mod Own
 pub mod Boot
 pub mod Made
+pub mod Groups
 pub mod Complete
 pub mod Merge

@@ -1,4 +1,4 @@
--- The states that setup and calls make, and what document 01, "Sizes", and document 02, Q-2, promise of them.
+-- The states that setup and calls make, and what document 01, "Sizes", and document 02, Q-2 and Q-3, promise of them.
 use Prim.Native.Nat.{ℕ, _≤_}
 use mathlib.Core.Path.{_≡_}
 use mathlib.Core.List.{List}
@@ -7,6 +7,7 @@ use lib.ListN.{length}
 use Rattle.csmp.specs.declared.Image.{Image}
 use Rattle.outgoing.specs.declared.Report.{Report}
 use Rattle.schedule.specs.declared.Point.{Point}
+use Rattle.state.specs.Groups.{TypesDiffer}
 use Rattle.state.specs.Setup.{setupOf}
 use Rattle.state.specs.declared.Assigned.{Assigned}
 use Rattle.state.specs.declared.Device.{Device}
@@ -60,9 +61,11 @@ pub record ImagesSized (d : Device) (i : Images) : Type 0 where
   pub pending : length (i .pending .hash) ≡ 32
   pub backup : length (i .backup .bytes) ≡ 32
 
--- groups 8, session id 64, each report list 32
+-- groups 8, no two of one type; session id 64, each report list 32
 pub record AssignedSized (a : Assigned) : Type 0 where
+  pub pairs : length (a .groups .list) ≡ 8
   pub groups : a .groups .count ≤ 8
+  pub types : TypesDiffer (a .groups)
   pub session : a .session .len ≤ 64
   pub ids : a .ids .count ≤ 32
   pub heartbeat : a .«heartbeat_ids» .count ≤ 32

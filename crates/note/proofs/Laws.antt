@@ -13,19 +13,19 @@ use Rattle.protobuf.specs.declared.Number.the-variants.{Given, Absent}
 use Rattle.schedule.specs.declared.Point.{Point}
 use Rattle.state.specs.declared.Assigned.{Assigned}
 use Rattle.state.specs.declared.Device.{Device}
-use Rattle.assign.specs.Assign.{withSession, withReport}
-use Rattle.note.specs.Note.{marked, withAssigned, redirectNoted, sessionNoted, reportNoted, withPair, pushed, withGroup, groupNoted, validityNoted, signatureNoted, noted}
+use Rattle.assign.specs.Assign.{withSession, withReport, regrouped}
+use Rattle.note.specs.Note.{marked, withAssigned, redirectNoted, sessionNoted, reportNoted, withRegrouped, groupAssigned, withGroup, groupNoted, validityNoted, signatureNoted, noted}
 use Rattle.note.specs.declared.Learnt.{Learnt}
 
--- one group more
+-- one assignment more
 module _ (l : Learnt) (kind id : ℕ) where
-  pub pushed-full : 8 ≤ l .groups .count → pushed l kind id ≡ marked l false
-  unfolding pushed
-  pushed-full h = rw (le-leb 8 (l .groups .count) h)
+  pub ninth-unreadable : 8 ≤ l .«group_assigns» → groupAssigned l kind id ≡ marked l false
+  unfolding groupAssigned
+  ninth-unreadable h = rw (le-leb 8 (l .«group_assigns») h)
 
-  pub pushed-more : l .groups .count < 8 → pushed l kind id ≡ withPair l kind id
-  unfolding pushed
-  pushed-more h = rw (lt-leb 8 (l .groups .count) h)
+  pub eight-assigned : l .«group_assigns» < 8 → withRegrouped l (regrouped (l .assigned .groups) kind id) ≡ groupAssigned l kind id
+  unfolding groupAssigned
+  eight-assigned h = rw (lt-leb 8 (l .«group_assigns») h)
 
 module _ (l : Learnt) (m : Group) where
   pub group-kindless : m .kind ≡ Absent → withGroup l m ≡ l
@@ -36,7 +36,7 @@ module _ (l : Learnt) (m : Group) where
   unfolding withGroup
   group-idless kind h k = rw (h, k)
 
-  pub group-whole : (kind id : ℕ) → m .kind ≡ Given kind → m .id ≡ Given id → withGroup l m ≡ pushed l kind id
+  pub group-whole : (kind id : ℕ) → m .kind ≡ Given kind → m .id ≡ Given id → withGroup l m ≡ groupAssigned l kind id
   unfolding withGroup
   group-whole kind id h k = rw (h, k)
 

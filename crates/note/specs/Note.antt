@@ -1,9 +1,8 @@
--- What one record of an acknowledgement says, document 01, "Registration and reports".
+-- What one record of an acknowledgement says, document 01, "Registration and reports", as document 02, Q-3, amends it.
 use Prim.Native.Nat.{ℕ, _+_}
 use mathlib.Core.List.{List}
 use mathlib.Core.Bool.{Bool, true, false, _&&_, _||_}
 use lib.Dec.{eqb, leb}
-use lib.ListN.{set}
 use Rattle.buffer.specs.Pick.{pick}
 use Rattle.nesting.specs.Readable.{plain}
 use Rattle.decode.specs.Read.{redirectOf, sessionOf, groupOf, validityOf}
@@ -14,24 +13,25 @@ use Rattle.protobuf.specs.declared.Number.{Number}
 use Rattle.protobuf.specs.declared.Number.the-variants.{Given, Absent}
 use Rattle.registration.specs.Redirect.{followed, urlIn, redirected}
 use Rattle.schedule.specs.declared.Point.{Point}
-use Rattle.state.specs.Setup.{noGroups}
 use Rattle.state.specs.declared.Assigned.{Assigned}
 use Rattle.state.specs.declared.Device.{Device}
 use Rattle.state.specs.declared.Registration.{Registration}
-use Rattle.assign.specs.Assign.{withSession, withReport}
+use Rattle.assign.specs.Assign.{withSession, withReport, regrouped, holding}
+use Rattle.assign.specs.declared.Regrouped.{Regrouped}
 use Rattle.note.specs.declared.Learnt.{Learnt}
 
 -- before the first record
 abbrev pub nothingLearnt : Registration → Assigned → Learnt
-nothingLearnt r a =
+nothingLearnt r held =
     record {
       readable = true;
       signed = false;
       expired = false;
       redirected = false;
       registration = r;
-      assigned = a;
-      groups = noGroups;
+      assigned = held;
+      «group_assigns» = 0;
+      «needs_ninth» = false;
     }
 
 -- readable: its 6, 7, 13, 55, 76, 77 too
@@ -44,7 +44,8 @@ marked l b =
       redirected = l .redirected;
       registration = l .registration;
       assigned = l .assigned;
-      groups = l .groups;
+      «group_assigns» = l .«group_assigns»;
+      «needs_ninth» = l .«needs_ninth»;
     }
 
 abbrev pub withAssigned : Learnt → Assigned → Learnt
@@ -56,7 +57,8 @@ withAssigned l a =
       redirected = l .redirected;
       registration = l .registration;
       assigned = a;
-      groups = l .groups;
+      «group_assigns» = l .«group_assigns»;
+      «needs_ninth» = l .«needs_ninth»;
     }
 
 -- 6: of several redirects the last not ignored counts, since each starts registration again
@@ -69,7 +71,8 @@ redirectNoted d l v =
       redirected = l .redirected || followed (urlIn v);
       registration = redirected d (l .registration) v;
       assigned = l .assigned;
-      groups = l .groups;
+      «group_assigns» = l .«group_assigns»;
+      «needs_ninth» = l .«needs_ninth»;
     }
 
 -- 7: of several sessions the last not ignored counts
@@ -80,26 +83,29 @@ sessionNoted l v = marked (withAssigned l (withSession (l .assigned) v)) (sessio
 unfoldable pub reportNoted : Learnt → List ℕ → Learnt
 reportNoted l v = marked (withAssigned l (withReport (l .assigned) v)) (reportOf v .readable)
 
--- 55: the complete ones in order; over 8 make it unreadable
-abbrev pub withPair : Learnt → ℕ → ℕ → Learnt
-withPair l kind id =
+-- 55: one assignment more; that a ninth group would be needed is noted, since then the whole acknowledgement changes nothing
+abbrev pub withRegrouped : Learnt → Regrouped → Learnt
+withRegrouped l r =
     record {
       readable = l .readable;
       signed = l .signed;
       expired = l .expired;
       redirected = l .redirected;
       registration = l .registration;
-      assigned = l .assigned;
-      groups = record { list = set (l .groups .list) (l .groups .count) (record { kind = kind; id = id }); count = l .groups .count + 1 };
+      assigned = holding (l .assigned) (r .groups);
+      «group_assigns» = l .«group_assigns» + 1;
+      «needs_ninth» = l .«needs_ninth» || r .«needs_ninth»;
     }
 
-unfoldable pub pushed : Learnt → ℕ → ℕ → Learnt
-pushed l kind id = pick (leb 8 (l .groups .count)) (marked l false) (withPair l kind id)
+-- over 8 complete ones make it unreadable, whatever their types
+unfoldable pub groupAssigned : Learnt → ℕ → ℕ → Learnt
+groupAssigned l kind id = pick (leb 8 (l .«group_assigns»)) (marked l false) (withRegrouped l (regrouped (l .assigned .groups) kind id))
 
+-- an incomplete one is ignored
 abbrev pub grouped : Learnt → Number → Number → Learnt
 grouped l Absent id = l
 grouped l (Given kind) Absent = l
-grouped l (Given kind) (Given id) = pushed l kind id
+grouped l (Given kind) (Given id) = groupAssigned l kind id
 
 unfoldable pub withGroup : Learnt → Group → Learnt
 withGroup l m = grouped l (m .kind) (m .id)
@@ -117,7 +123,8 @@ validityNoted l v time =
       redirected = l .redirected;
       registration = l .registration;
       assigned = l .assigned;
-      groups = l .groups;
+      «group_assigns» = l .«group_assigns»;
+      «needs_ninth» = l .«needs_ninth»;
     }
 
 unfoldable pub signatureNoted : Learnt → List ℕ → Learnt
@@ -129,7 +136,8 @@ signatureNoted l v =
       redirected = l .redirected;
       registration = l .registration;
       assigned = l .assigned;
-      groups = l .groups;
+      «group_assigns» = l .«group_assigns»;
+      «needs_ninth» = l .«needs_ninth»;
     }
 
 -- one record more; others are skipped unread

@@ -4,14 +4,12 @@ use protobuf::Number;
 use schedule::Point;
 use state::Assigned;
 use state::Device;
-use state::Groups;
-use state::Pair;
 use state::Registration;
 ghost use mathlib.Core.Path.{_≡_};
-ghost use Rattle.note.specs.Note.{nothingLearnt, marked, pushed, withGroup, redirectNoted, sessionNoted, reportNoted, groupNoted, validityNoted, signatureNoted, noted};
+ghost use Rattle.note.specs.Note.{nothingLearnt, marked, groupAssigned, withGroup, redirectNoted, sessionNoted, reportNoted, groupNoted, validityNoted, signatureNoted, noted};
 
 // What a walk over an acknowledgement has learnt: whether it can be read, is signed, is not valid now; whether a redirect was followed and
-// registration after it; what was assigned; the complete GroupAssigns.
+// registration after it; what was assigned; how many complete GroupAssigns there were, and whether one of them would need a ninth group.
 pub struct Learnt {
     pub readable: bool,
     pub signed: bool,
@@ -19,7 +17,8 @@ pub struct Learnt {
     pub redirected: bool,
     pub registration: Registration,
     pub assigned: Assigned,
-    pub groups: Groups,
+    pub group_assigns: usize,
+    pub needs_ninth: bool,
 }
 
 // Before the first record.
@@ -33,7 +32,8 @@ pub fn nothing(registration: Registration, assigned: Assigned) -> Learnt
         redirected: false,
         registration,
         assigned,
-        groups: state::no_groups(),
+        group_assigns: 0,
+        needs_ninth: false,
     }
 }
 
@@ -79,19 +79,23 @@ fn note_report(learnt: Learnt, v: &[u8]) -> Learnt
     next
 }
 
-// One group more; over 8 make the acknowledgement unreadable.
-fn push(learnt: Learnt, kind: u32, id: u32) -> Learnt
-    ensures { λ r. ⌜ r ≡ pushed learnt kind id ⌝ }
+// One complete GroupAssign more, or the note that it would need a ninth group; over 8 make the acknowledgement unreadable.
+fn assign_group(learnt: Learnt, kind: u32, id: u32) -> Learnt
+    ensures { λ r. ⌜ r ≡ groupAssigned learnt kind id ⌝ }
 {
-    let n = learnt.groups.count;
+    let n = learnt.group_assigns;
     if 8 <= n {
         return mark(learnt, false);
     }
-    let mut list = learnt.groups.list;
-    list[n] = Pair { kind, id };
-    let groups = Groups { list, count: n + 1 };
+    let old = learnt.assigned.groups;
+    let regrouped = assign::regroup(old, kind, id);
+    let groups = regrouped.groups;
+    let mut assigned = learnt.assigned;
+    assigned.groups = groups;
     let mut next = learnt;
-    next.groups = groups;
+    next.assigned = assigned;
+    next.group_assigns = n + 1;
+    next.needs_ninth = buffer::either(learnt.needs_ninth, regrouped.needs_ninth);
     next
 }
 
@@ -107,7 +111,7 @@ fn with_group(learnt: Learnt, m: Group) -> Learnt
     let Number::Given(id) = given_id else {
         return learnt;
     };
-    push(learnt, kind, id)
+    assign_group(learnt, kind, id)
 }
 
 fn note_group(learnt: Learnt, v: &[u8]) -> Learnt

@@ -16,6 +16,7 @@ use Rattle.encode.specs.Write.{sessionRecord, timeRecord}
 use Rattle.decimal.specs.Ids.{held}
 use Rattle.decimal.specs.declared.Ids.{Ids}
 use Rattle.schedule.specs.declared.Point.{Point}
+use Rattle.state.specs.Groups.{heldPairs}
 use Rattle.state.specs.declared.Assigned.{Assigned}
 use Rattle.state.specs.declared.State.{State}
 use Rattle.own.specs.Own.{reportShown, groupsShown, ownRecords}
@@ -47,11 +48,11 @@ module _ (a : Assigned) (which : Report) where
 
 -- what a registration tells behind DeviceID
 pub known-join : (s : State) (store : List ℕ) (time : Point) {out w x y z left : List ℕ} {at a b c d n : ℕ} → Put out at (timeRecord time) w a
-    → Appended w a (sessionShown (s .assigned)) x b → Appended x b (groupsShown (take (s .assigned .groups .count) (s .assigned .groups .list))) y c
+    → Appended w a (sessionShown (s .assigned)) x b → Appended x b (groupsShown (heldPairs (s .assigned .groups))) y c
     → Appended y c (reportShown (s .assigned)) z d → Appended z d (copies store (Except 2)) left n → Appended out at (knownTo s store time) left n
 unfolding knownTo
 known-join s store time p q r t u =
-    let g = groupsShown (take (s .assigned .groups .count) (s .assigned .groups .list)) in
+    let g = groupsShown (heldPairs (s .assigned .groups)) in
     let i = sessionShown (s .assigned) in
     let m = reportShown (s .assigned) in
     let o = copies store (Except 2) in

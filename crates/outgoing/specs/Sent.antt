@@ -2,13 +2,14 @@
 use Prim.Native.Nat.{ℕ}
 use mathlib.Core.List.{List, [], _++_}
 use lib.Dec.{eqb, ltb}
-use lib.ListN.{length, take}
+use lib.ListN.{length}
 use Rattle.buffer.specs.Pick.{pick}
 use Rattle.coap.specs.Write.{registrationHead, reportHead}
 use Rattle.encode.specs.Write.{sessionRecord, timeRecord}
 use Rattle.decimal.specs.Ids.{held}
 use Rattle.decimal.specs.declared.Ids.{Ids}
 use Rattle.schedule.specs.declared.Point.{Point}
+use Rattle.state.specs.Groups.{heldPairs}
 use Rattle.state.specs.declared.Assigned.{Assigned}
 use Rattle.state.specs.declared.State.{State}
 use Rattle.own.specs.Own.{reportShown, groupsShown, ownRecords}
@@ -33,7 +34,7 @@ unfoldable pub knownTo : State → List ℕ → Point → List ℕ
 knownTo s store time =
     timeRecord time
     ++ (sessionShown (s .assigned)
-    ++ (groupsShown (take (s .assigned .groups .count) (s .assigned .groups .list)) ++ (reportShown (s .assigned) ++ copies store (Except 2))))
+    ++ (groupsShown (heldPairs (s .assigned .groups)) ++ (reportShown (s .assigned) ++ copies store (Except 2))))
 
 -- a round's CON POST to /r; nothing where there is no DeviceID in the store
 unfoldable pub registrationSent : State → List ℕ → Point → List ℕ

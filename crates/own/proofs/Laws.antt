@@ -13,6 +13,7 @@ use Rattle.encode.proofs.Sizes.{report-most, time-most, group-most}
 use Rattle.images.specs.Images.{imagesShown}
 use Rattle.images.proofs.Laws.{ImagesSized, shown, shown-not, shown-most, images-most}
 use Rattle.schedule.specs.declared.Point.{Point}
+use Rattle.state.specs.Groups.{noPair, heldPairs}
 use Rattle.state.specs.declared.Assigned.{Assigned}
 use Rattle.state.specs.declared.Pair.{Pair}
 use Rattle.state.specs.declared.State.{State}
@@ -48,9 +49,6 @@ module _ {out : List ℕ} {at : ℕ} (l : List Pair) (n i : ℕ) {left : List �
   pub groups-end : length l ≤ i → Appended out at (groupsTo l n i) left end → Appended out at (groupsShown (take n l)) left end
   unfolding groupsTo
   groups-end h a = rw (take-all i (take n l) (omega (arith, length-take n l))) at a
-
-abbrev pub noPair : Pair
-noPair = record { kind = 0; id = 0 }
 
 pub groups-start : (l : List Pair) (n : ℕ) (out : List ℕ) (at : ℕ) → at ≤ length out + 1 → Appended out at (groupsTo l n 0) out at
 unfolding groupsTo groupsShown
@@ -97,7 +95,7 @@ own-most : (s : State) (time : Point) → AssignedSized (s .assigned) → Images
 unfolding ownRecords
 own-most s time a i =
     let r = reportShown (s .assigned) in
-    let g = groupsShown (take (s .assigned .groups .count) (s .assigned .groups .list)) in
+    let g = groupsShown (heldPairs (s .assigned .groups)) in
     let m = imagesShown (s .images) in
     let h = report-shown-most (s .assigned) (a .ids) (a .«heartbeat_ids») in
     let k = groups-most (s .assigned .groups .list) (s .assigned .groups .count) (a .groups) in
@@ -108,11 +106,11 @@ own-most s time a i =
 -- all of them, at the front
 pub own-all : (s : State) (time : Point) {out w x y left : List ℕ} {a b c n : ℕ} → length out ≡ 4096 → AssignedSized (s .assigned) → ImagesSized (s .images)
     → Appended out 0 (reportShown (s .assigned)) w a → Put w a (timeRecord time) x b
-    → Appended x b (groupsShown (take (s .assigned .groups .count) (s .assigned .groups .list))) y c → Appended y c (imagesShown (s .images)) left n
+    → Appended x b (groupsShown (heldPairs (s .assigned .groups))) y c → Appended y c (imagesShown (s .images)) left n
     → (n ≤ length left) × (take n left ≡ ownRecords s time)
 unfolding ownRecords
 own-all s time {out} {left = left} {n = n} h z i p q r t =
-    let g = groupsShown (take (s .assigned .groups .count) (s .assigned .groups .list)) in
+    let g = groupsShown (heldPairs (s .assigned .groups)) in
     let m = imagesShown (s .images) in
     let k = own-most s time z i in
     let e : Appended out 0 (ownRecords s time) left n =

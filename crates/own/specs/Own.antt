@@ -1,11 +1,11 @@
 -- The agent's own records, document 01, "Requests, in this order" and "Transfer": 13, 18, 58, 75.
 use Prim.Native.Nat.{ℕ}
 use mathlib.Core.List.{List, [], _∷_, _++_}
-use lib.ListN.{take}
 use Rattle.buffer.specs.Pick.{pick}
 use Rattle.encode.specs.Write.{reportRecord, timeRecord, groupRecord}
 use Rattle.images.specs.Images.{imagesShown}
 use Rattle.schedule.specs.declared.Point.{Point}
+use Rattle.state.specs.Groups.{heldPairs}
 use Rattle.state.specs.declared.Assigned.{Assigned}
 use Rattle.state.specs.declared.Pair.{Pair}
 use Rattle.state.specs.declared.State.{State}
@@ -23,4 +23,4 @@ groupsShown (p ∷ ps) = groupRecord (p .kind) (p .id) ++ groupsShown ps
 unfoldable pub ownRecords : State → Point → List ℕ
 ownRecords s time =
     reportShown (s .assigned)
-    ++ (timeRecord time ++ (groupsShown (take (s .assigned .groups .count) (s .assigned .groups .list)) ++ imagesShown (s .images)))
+    ++ (timeRecord time ++ (groupsShown (heldPairs (s .assigned .groups)) ++ imagesShown (s .images)))

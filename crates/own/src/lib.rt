@@ -7,6 +7,7 @@ ghost use mathlib.Core.Path.{_≡_};
 ghost use Prim.Native.Nat.{_≤_};
 ghost use lib.ListN.{length, take};
 ghost use Rattle.buffer.specs.Put.{Appended};
+ghost use Rattle.state.specs.Groups.{heldPairs};
 ghost use Rattle.own.specs.Own.{reportShown, groupsShown, ownRecords};
 
 // ReportSubscribe, once one is held.
@@ -25,7 +26,7 @@ pub fn put_subscription(a: Assigned, out: &mut [u8], at: usize) -> usize
 
 // GroupInfo for each group.
 pub fn put_groups(groups: Groups, out: &mut [u8], at: usize) -> usize
-    ensures { λ r. ⌜ Appended (now (out .entry)) at (groupsShown (take (groups .count) (groups .list))) (now (out .exit)) r ⌝ }
+    ensures { λ r. ⌜ Appended (now (out .entry)) at (groupsShown (heldPairs groups)) (now (out .exit)) r ⌝ }
 {
     let list = groups.list;
     let mut end = buffer::put(out, at, b"");

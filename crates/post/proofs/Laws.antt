@@ -1,5 +1,5 @@
 -- Laws of judging a payload, one step each.
-use Prim.Native.Nat.{ℕ, zero, suc, _+_, _≤_, _<_}
+use Prim.Native.Nat.{ℕ, suc, _+_, _≤_, _<_}
 use mathlib.Core.Path.{_≡_, refl, _∙_}
 use mathlib.Core.List.{List, [], _∷_, map}
 use mathlib.Core.Bool.{Bool, true, false, _&&_}
@@ -8,13 +8,12 @@ use native.Mathlib.Omega.{arith}
 use borrow.Author.Tests.{eq-eqb, ne-eqb, le-leb, lt-leb}
 use types.Run.{OneOf}
 use lib.Dec.{leb}
-use lib.ListN.{length, take, drop, getD}
-use lib.Seq.{drop-nil}
+use lib.ListN.{length, drop, getD, length-take, drop-of-length-le}
 use Rattle.decode.specs.Read.{groupOf}
 use Rattle.protobuf.specs.declared.Number.the-variants.{Given, Absent}
 use Rattle.schedule.specs.declared.Point.{Point}
+use Rattle.state.specs.Groups.{noPair, heldPairs}
 use Rattle.state.specs.declared.Groups.{Groups}
-use Rattle.state.specs.declared.Pair.{Pair}
 use Rattle.tlv.specs.Record.{valued, records, readable, recordAt, recordsFrom}
 use Rattle.tlv.specs.declared.Record.{Record}
 use Rattle.tlv.specs.declared.Taken.the-variants.{Record as Whole, Unreadable}
@@ -58,32 +57,17 @@ module _ (k : ℕ) (h : OneOf (7 ∷ 13 ∷ 18 ∷ 55 ∷ 58 ∷ []) k → ⊥) 
       apart ∙ rw (le-leb 71 k n, lt-leb k 75 l)
 
 -- the pairs held from a place of the list on
-beyond : (l : List Pair) (n i : ℕ) → n ≤ i → drop i (take n l) ≡ []
-beyond l zero i h = drop-nil i
-beyond [] (suc n) i h = drop-nil i
-beyond (x ∷ xs) (suc n) zero h = absurd (omega arith)
-beyond (x ∷ xs) (suc n) (suc i) h = beyond xs n i (omega arith)
-
-past : (l : List Pair) (n i : ℕ) → length l ≤ i → drop i (take n l) ≡ []
-past l zero i h = drop-nil i
-past [] (suc n) i h = drop-nil i
-past (x ∷ xs) (suc n) zero h = absurd (omega arith)
-past (x ∷ xs) (suc n) (suc i) h = past xs n i (omega arith)
-
-abbrev pub noPair : Pair
-noPair = record { kind = 0; id = 0 }
-
 unfoldable pub pairFrom : Groups → ℕ → ℕ → ℕ → Bool
-pairFrom g i kind id = anyPair (drop i (take (g .count) (g .list))) kind id
+pairFrom g i kind id = anyPair (drop i (heldPairs g)) kind id
 
 module _ (g : Groups) (i kind id : ℕ) where
   pub pair-past : g .count ≤ i → pairFrom g i kind id ≡ false
   unfolding pairFrom anyPair
-  pair-past h = rw (beyond (g .list) (g .count) i h)
+  pair-past h = rw (drop-of-length-le (heldPairs g) {i = i} (omega (arith, length-take (g .count) (g .list))))
 
   pub pair-end : length (g .list) ≤ i → pairFrom g i kind id ≡ false
   unfolding pairFrom anyPair
-  pair-end h = rw (past (g .list) (g .count) i h)
+  pair-end h = rw (drop-of-length-le (heldPairs g) {i = i} (omega (arith, length-take (g .count) (g .list))))
 
   module _ (h : i < g .count) (l : i < length (g .list)) where
     pub pair-here : getD (g .list) i noPair .kind ≡ kind → getD (g .list) i noPair .id ≡ id → pairFrom g i kind id ≡ true

@@ -2,7 +2,6 @@
 use Prim.Native.Nat.{ℕ}
 use mathlib.Core.List.{List, [], _∷_}
 use mathlib.Core.Bool.{Bool, true, false, _&&_, _||_}
-use lib.ListN.{take}
 use lib.Dec.{eqb, leb, ltb}
 use Rattle.buffer.specs.Listed.{listed}
 use Rattle.buffer.specs.Pick.{pick}
@@ -14,6 +13,7 @@ use Rattle.protobuf.specs.declared.Number.the-variants.{Given, Absent}
 use Rattle.schedule.specs.declared.Point.{Point}
 use Rattle.schedule.specs.declared.Moment.{Moment}
 use Rattle.schedule.specs.declared.Moment.the-variants.{At, Absent as Open}
+use Rattle.state.specs.Groups.{heldPairs}
 use Rattle.state.specs.declared.Groups.{Groups}
 use Rattle.state.specs.declared.Pair.{Pair}
 
@@ -48,7 +48,7 @@ anyPair [] kind id = false
 anyPair (p ∷ ps) kind id = (eqb (p .kind) kind && eqb (p .id) id) || anyPair ps kind id
 
 unfoldable pub hasPair : Groups → ℕ → ℕ → Bool
-hasPair g kind id = anyPair (take (g .count) (g .list)) kind id
+hasPair g kind id = anyPair (heldPairs g) kind id
 
 unfoldable pub matchOf : Groups → Number → Number → Bool
 matchOf g (Given kind) (Given id) = hasPair g kind id

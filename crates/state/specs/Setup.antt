@@ -10,6 +10,7 @@ use Rattle.csmp.specs.declared.Image.{Image}
 use Rattle.decimal.specs.Ids.{noIds}
 use Rattle.schedule.specs.declared.Length.{Length}
 use Rattle.schedule.specs.declared.Interval.the-variants.{Absent}
+use Rattle.state.specs.Groups.{noPair}
 use Rattle.state.specs.declared.HwId.{HwId}
 use Rattle.state.specs.declared.Url.{Url}
 use Rattle.state.specs.declared.Groups.{Groups}
@@ -49,7 +50,7 @@ abbrev pub noPending : Pending
 noPending = record { is = false; hash = replicate 32 0; time = record { 0 = 0 } }
 
 abbrev pub noGroups : Groups
-noGroups = record { list = replicate 8 (record { kind = 0; id = 0 }); count = 0 }
+noGroups = record { list = replicate 8 noPair; count = 0 }
 
 abbrev pub onlyRunning : List ℕ → Images
 onlyRunning hash =

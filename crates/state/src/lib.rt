@@ -10,7 +10,6 @@ use schedule::Length;
 use schedule::Point;
 pub use setup::Settings;
 pub use setup::Setup;
-pub use setup::no_groups;
 pub use setup::no_pending;
 pub use setup::set_up;
 pub use setup::url_of;

@@ -100,7 +100,7 @@ pub fn no_pending() -> Pending
     }
 }
 
-pub fn no_groups() -> Groups
+fn no_groups() -> Groups
     ensures { λ r. ⌜ r ≡ noGroups ⌝ }
 {
     Groups {

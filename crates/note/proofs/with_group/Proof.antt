@@ -23,11 +23,11 @@ enum-told-2 c = search needs
 returns-2 : tie.Need-returns-2
 returns-2 c = sym (group-idless _ _ _ (c .before .before .before .given-kind .given .1) (c .enum-told2 .given .1))
 
-push-requires : tie.Need-push-requires
-push-requires c κs = search needs
+assign-group-requires : tie.Need-assign-group-requires
+assign-group-requires c κs = search needs
 
 returns-3 : tie.Need-returns-3
-returns-3 c = c .push .ensures ∙ sym (group-whole _ _ _ _ (c .before .before .before .before .before .given-kind .given .1) (c .before .before .given-id .given .1))
+returns-3 c = c .assign-group .ensures ∙ sym (group-whole _ _ _ _ (c .before .before .before .before .before .given-kind .given .1) (c .before .before .given-id .given .1))
 
 pub with-group-spec : {M : Type 1} → statement M
 with-group-spec =
@@ -39,5 +39,5 @@ with-group-spec =
     enum-known-given-id
     enum-told-2
     returns-2
-    push-requires
+    assign-group-requires
     returns-3)
