@@ -2,7 +2,7 @@
 use Prim.Native.Nat.{ℕ}
 use mathlib.Core.Path.{_≡_}
 use mathlib.Core.List.{List}
-use mathlib.Core.Bool.{Bool, true, false, not}
+use mathlib.Core.Bool.{Bool, true, false, not, _||_}
 use lib.Dec.{eqb}
 use Rattle.post.specs.Judge.{badlySigned}
 use Rattle.schedule.specs.declared.Point.{Point}
@@ -35,22 +35,23 @@ module _ (l : Learnt) (verdict : ℕ) (required : Bool) where
   unfolding isTakable
   takable-unsigned h k = rw (h, k)
 
-  pub takable-valid : l .readable ≡ true → badlySigned (l .signed) verdict required ≡ false → isTakable l verdict required ≡ not (l .expired)
+  pub takable-expired : l .readable ≡ true → badlySigned (l .signed) verdict required ≡ false → l .expired ≡ true → isTakable l verdict required ≡ false
   unfolding isTakable
-  takable-valid h k = rw (h, k)
+  takable-expired h k m = rw (h, k, m)
+
+  pub takable-placed : l .readable ≡ true → badlySigned (l .signed) verdict required ≡ false → l .expired ≡ false
+      → isTakable l verdict required ≡ (l .redirected || not (l .«needs_ninth»))
+  unfolding isTakable
+  takable-placed h k m = rw (h, k, m)
 
 module _ (s : State) (l : Learnt) where
   pub taken-redirected : l .redirected ≡ true → takenBy s l ≡ record { device = s .device; images = s .images; assigned = s .assigned; registration = l .registration }
   unfolding takenBy
   taken-redirected h = rw h
 
-  pub taken-not : l .redirected ≡ false → l .«needs_ninth» ≡ true → takenBy s l ≡ s
+  pub taken-accepted : l .redirected ≡ false → takenBy s l ≡ acceptedBy s l
   unfolding takenBy
-  taken-not h k = rw (h, k)
-
-  pub taken-accepted : l .redirected ≡ false → l .«needs_ninth» ≡ false → takenBy s l ≡ acceptedBy s l
-  unfolding takenBy
-  taken-accepted h k = rw (h, k)
+  taken-accepted h = rw h
 
 module _ (s : State) (id : ℕ) (p : List ℕ) (time : Point) (verdict : ℕ) where
   pub ack-unawaited : isAwaited (s .registration) id ≡ false → acknowledged s id p time verdict ≡ s

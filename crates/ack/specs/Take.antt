@@ -1,7 +1,7 @@
 -- When an acknowledgement is taken, and what it then does, document 01, "Registration and reports", as document 02, Q-3, amends it.
 use Prim.Native.Nat.{ℕ}
 use mathlib.Core.List.{List}
-use mathlib.Core.Bool.{Bool, true, not, _&&_}
+use mathlib.Core.Bool.{Bool, true, not, _&&_, _||_}
 use lib.Dec.{eqb}
 use Rattle.buffer.specs.Pick.{pick}
 use Rattle.post.specs.Judge.{badlySigned}
@@ -15,9 +15,10 @@ use Rattle.note.specs.declared.Learnt.{Learnt}
 unfoldable pub isAwaited : Registration → ℕ → Bool
 isAwaited r id = not (r .accepted) && (r .awaited && eqb (r .round) id)
 
--- readable, and passing f (with the setting for responses) and g
+-- readable, and passing f (with the setting for responses) and g; one that has no redirect to do and would need a ninth group changes nothing
 unfoldable pub isTakable : Learnt → ℕ → Bool → Bool
-isTakable l verdict required = l .readable && (not (badlySigned (l .signed) verdict required) && not (l .expired))
+isTakable l verdict required =
+    l .readable && (not (badlySigned (l .signed) verdict required) && (not (l .expired) && (l .redirected || not (l .«needs_ninth»))))
 
 -- it is accepted, and any session, groups and report are stored
 unfoldable pub acceptedBy : State → Learnt → State
@@ -38,12 +39,12 @@ acceptedBy s l =
           };
     }
 
--- with a redirect only that is done, and registration restarts; one that has no redirect to do and would need a ninth group changes nothing
+-- with a redirect only that is done, and registration restarts
 unfoldable pub takenBy : State → Learnt → State
 takenBy s l =
     pick (l .redirected)
     (record { device = s .device; images = s .images; assigned = s .assigned; registration = l .registration })
-    (pick (l .«needs_ninth») s (acceptedBy s l))
+    (acceptedBy s l)
 
 -- all others change nothing
 unfoldable pub acknowledged : State → ℕ → List ℕ → Point → ℕ → State

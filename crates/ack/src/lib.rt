@@ -19,7 +19,7 @@ fn is_awaited(registration: Registration, id: u16) -> bool
     registration.round == id
 }
 
-// Readable, signed as the setting for responses asks, and valid now.
+// Readable, signed as the setting for responses asks, valid now, and with a redirect to do or a place for its groups.
 fn is_takable(learnt: Learnt, verdict: u8, required: bool) -> bool
     ensures { λ r. ⌜ r ≡ isTakable learnt verdict required ⌝ }
 {
@@ -29,7 +29,10 @@ fn is_takable(learnt: Learnt, verdict: u8, required: bool) -> bool
     if post::badly_signed(learnt.signed, verdict, required) {
         return false;
     }
-    !learnt.expired
+    if learnt.expired {
+        return false;
+    }
+    buffer::either(learnt.redirected, !learnt.needs_ninth)
 }
 
 // Accepted: what was assigned is stored.
@@ -45,20 +48,17 @@ fn accept(state: State, learnt: Learnt) -> State
     next
 }
 
-// With a redirect only that is done; without one, an acknowledgement that would need a ninth group changes nothing.
+// With a redirect only that is done.
 fn take(state: State, learnt: Learnt) -> State
     ensures { λ r. ⌜ r ≡ takenBy state learnt ⌝ }
 {
-    if learnt.redirected {
-        let registration = learnt.registration;
-        let mut next = state;
-        next.registration = registration;
-        return next;
+    if !learnt.redirected {
+        return accept(state, learnt);
     }
-    if learnt.needs_ninth {
-        return state;
-    }
-    accept(state, learnt)
+    let registration = learnt.registration;
+    let mut next = state;
+    next.registration = registration;
+    next
 }
 
 // An ACK 2.03 with a message id: taken, or nothing changes.

@@ -5,7 +5,7 @@ use mathlib.Core.List.{List}
 use mathlib.Core.Bool.{true, false}
 use native.Mathlib.Omega.{arith}
 use borrow.Author.Tests.{eq-eqb, ne-eqb, lt-ltb, le-ltb, le-leb, lt-leb}
-use lib.ListN.{length, take, drop, set, length-take, drop-of-length-le}
+use lib.ListN.{length, take, drop, set, drop-of-length-le}
 use Rattle.decode.specs.Read.{sessionOf}
 use Rattle.decode.specs.declared.Session.{Session}
 use Rattle.csmp.specs.declared.SessionId.{SessionId}
@@ -53,13 +53,9 @@ unfolding placeFrom
 place-start g kind = omega arith
 
 module _ (g : Groups) (i kind : ℕ) where
-  pub place-past : g .count ≤ i → placeFrom g i kind ≡ i
+  pub place-end : length (heldPairs g) ≤ i → placeFrom g i kind ≡ i
   unfolding placeFrom placeIn
-  place-past h = rw (drop-of-length-le (heldPairs g) {i = i} (omega (arith, length-take (g .count) (g .list)))) (omega arith)
-
-  pub place-end : length (g .list) ≤ i → placeFrom g i kind ≡ i
-  unfolding placeFrom placeIn
-  place-end h = rw (drop-of-length-le (heldPairs g) {i = i} (omega (arith, length-take (g .count) (g .list)))) (omega arith)
+  place-end h = rw (drop-of-length-le (heldPairs g) {i = i} h) (omega arith)
 
   module _ (h : i < g .count) (l : i < length (g .list)) where
     pub place-here : typeAt g i ≡ kind → placeFrom g i kind ≡ i

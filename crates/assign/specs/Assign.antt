@@ -69,7 +69,7 @@ withPair g kind id =
       count = pick (ltb (placeOf g kind) (g .count)) (g .count) (placeOf g kind + 1);
     }
 
--- 8 are held, and none of that type: a ninth group would be needed
+-- where 8 are held and none of that type, a ninth group would be needed, and they stay
 unfoldable pub regrouped : Groups → ℕ → ℕ → Regrouped
 regrouped g kind id =
     pick (leb 8 (placeOf g kind)) (record { «needs_ninth» = true; groups = g }) (record { «needs_ninth» = false; groups = withPair g kind id })

@@ -2,7 +2,7 @@
 use Prim.Native.Nat.{ℕ, _-_, _≤_}
 use mathlib.Core.Path.{_≡_}
 use mathlib.Core.List.{List, [], _∷_}
-use mathlib.Core.Bool.{Bool, true, false, not, _&&_}
+use mathlib.Core.Bool.{Bool, true, false, not, _||_}
 use mathlib.Core.Option.{Option, none, some}
 use native.Mathlib.Omega.{arith}
 use borrow.Author.Tests.{leb-true, leb-false}
@@ -72,7 +72,7 @@ module _ (d : Device) (r : Registration) (k : DeviceSized d) (s : RegistrationSi
 in-session-sized : (a : Assigned) → AssignedSized a → (id : Option (List ℕ)) → IfAny (λ (l : List ℕ). length l ≤ 64) id → AssignedSized (inSession a id)
 unfolding sessionIdOf
 in-session-sized a s none h = s
-in-session-sized a s (some id) h = record { pairs = s .pairs; groups = s .groups; types = s .types; session = h; ids = s .ids; heartbeat = s .heartbeat }
+in-session-sized a s (some id) h = record { list = s .list; groups = s .groups; types = s .types; session = h; ids = s .ids; heartbeat = s .heartbeat }
 
 session-sized : (a : Assigned) → AssignedSized a → (v : List ℕ) → sessionOf v .readable ≡ true → AssignedSized (withSession a v)
 unfolding withSession sessionOf
@@ -114,7 +114,7 @@ module _ (v : List ℕ) (n : ℕ) where
 report-sized : (a : Assigned) → AssignedSized a → (v : List ℕ) → AssignedSized (withReport a v)
 unfolding withReport reportOf
 report-sized a s v =
-    record { pairs = s .pairs; groups = s .groups; types = s .types; session = s .session; ids = few-listed v 2; heartbeat = few-listed v 4 }
+    record { list = s .list; groups = s .groups; types = s .types; session = s .session; ids = few-listed v 2; heartbeat = few-listed v 4 }
 
 -- what an acknowledgement says is sized as long as it can be read
 pub record LearntSized (d : Device) (l : Learnt) : Type 0 where
@@ -164,9 +164,9 @@ module _ (d : Device) (k : DeviceSized d) where
         registration = s .registration;
         assigned =
             record {
-              pairs = with-pairs g kind id (a .pairs) (a .groups) f;
-              groups = with-few g kind id (a .pairs) (a .groups) f;
-              types = with-differ g kind id (a .pairs) (a .groups) f (a .types);
+              list = with-pairs g kind id (a .list) (a .groups) f;
+              groups = with-few g kind id (a .list) (a .groups) f;
+              types = with-differ g kind id (a .list) (a .groups) f (a .types);
               session = a .session;
               ids = a .ids;
               heartbeat = a .heartbeat;
@@ -217,10 +217,15 @@ module _ (d : Device) (k : DeviceSized d) where
       pick-both (Learns d) (readable p) _ _ (λ _. h) (λ _. marked-sized (learntOf d time (nothingLearnt r a) (records p)) false h)
 
 -- an acknowledgement, taken or not
-pub takable-readable : (l : Learnt) (verdict : ℕ) (required : Bool) → isTakable l verdict required ≡ true → l .readable ≡ true
-unfolding isTakable
-takable-readable l verdict required h =
-    both (l .readable) (not (badlySigned (l .signed) verdict required) && not (l .expired)) h .0
+module _ (l : Learnt) (verdict : ℕ) (required : Bool) (h : isTakable l verdict required ≡ true) where
+  pub takable-readable : l .readable ≡ true
+  unfolding isTakable
+  takable-readable = both (l .readable) _ h .0
+
+  pub takable-placed : (l .redirected || not (l .«needs_ninth»)) ≡ true
+  unfolding isTakable
+  takable-placed =
+      both (not (l .expired)) _ (both (not (badlySigned (l .signed) verdict required)) _ (both (l .readable) _ h .1) .1) .1
 
 module _ (s : State) (sized : Sized s) where
   taken-sized : (l : Learnt) → LearntSized (s .device) l → Sized (takenBy s l)
@@ -228,13 +233,12 @@ module _ (s : State) (sized : Sized s) where
   taken-sized l h =
       pick-both Sized (l .redirected) _ _
       (λ _. record { device = sized .device; images = sized .images; assigned = sized .assigned; registration = h .registration })
-      (λ _. pick-both Sized (l .«needs_ninth») _ _ (λ _. sized)
       (λ _. record {
         device = sized .device;
         images = sized .images;
         assigned = h .assigned;
         registration = record { url = sized .registration .url; interval = sized .registration .interval };
-      }))
+      })
 
   pub acknowledged-sized : (id : ℕ) (p : List ℕ) (time : Point) (verdict : ℕ) → Sized (acknowledged s id p time verdict)
   unfolding acknowledged

@@ -2,7 +2,7 @@
 use Prim.Native.Nat.{ℕ, _≤_, _<_}
 use mathlib.Core.Path.{_≡_, refl, sym, ap, _∙_}
 use mathlib.Core.List.{List, [], _∷_}
-use mathlib.Core.Bool.{Bool, true, false, not, true≢false}
+use mathlib.Core.Bool.{Bool, true, false, not, _||_, true≢false}
 use mathlib.Core.Logic.{_⊎_, inl, inr}
 use mathlib.Core.Option.{Option, none, some}
 use native.Mathlib.Omega.{arith}
@@ -47,7 +47,7 @@ use Rattle.calls.specs.Datagram.{Call, Effect, refusal, servedAs, served
 use Rattle.calls.specs.Groups.{idHeld, idAssigned, idAfter, ByType, GroupsByType}
 use Rattle.calls.specs.Made.{Made, DeviceSized}
 use Rattle.calls.specs.Own.{Sending, sending, sendingIf, roundOf, reports, reportOf}
-use Rattle.calls.proofs.AckSizes.{Learns, noted-sized, takable-readable}
+use Rattle.calls.proofs.AckSizes.{Learns, noted-sized, takable-readable, takable-placed}
 use Rattle.calls.proofs.Pairs.{with-grows, with-places, with-id}
 use Rattle.calls.proofs.Sizes.{made-sized}
 
@@ -124,9 +124,9 @@ module _ (d : Device) (l : Learnt) (h : Learns d l) where
       record {
         readable = r;
         room = neither (l .«needs_ninth») false e .0;
-        ids = with-id g kind id (a .pairs) (a .groups) f;
-        count = with-grows g kind id (a .pairs) (a .groups) f;
-        places = with-places g kind id (a .pairs) (a .groups) f;
+        ids = with-id g kind id (a .list) (a .groups) f;
+        count = with-grows g kind id (a .list) (a .groups) f;
+        places = with-places g kind id (a .list) (a .groups) f;
       }))
 
   grouped-moves : (kind id : Number) → Moves (λ type was. idAssigned type was kind id) l (grouped l kind id)
@@ -142,16 +142,17 @@ module _ (d : Device) (l : Learnt) (h : Learns d l) where
 abbrev idNoted : ℕ → List ℕ → ℕ → Number → Number
 idNoted k v type was = pick (eqb k 55) (idAssigned type was (groupOf v .kind) (groupOf v .id)) was
 
-module _ (l m : Learnt) (k : ℕ) (v : List ℕ) where
-  moves-55 : eqb k 55 ≡ true → Moves (λ type was. idAssigned type was (groupOf v .kind) (groupOf v .id)) l m → Moves (idNoted k v) l m
-  moves-55 t h r e =
-      let x = h r e in
-      record { readable = x .readable; room = x .room; ids = λ type. rw t (x .ids type); count = x .count; places = x .places }
+moves-as : (l m : Learnt) (f g : ℕ → Number → Number) → ((type : ℕ) (was : Number) → f type was ≡ g type was) → Moves f l m → Moves g l m
+moves-as l m f g e h r n =
+    let x = h r n in
+    record { readable = x .readable; room = x .room; ids = λ type. x .ids type ∙ e type _; count = x .count; places = x .places }
 
-  moves-other : eqb k 55 ≡ false → Moves still l m → Moves (idNoted k v) l m
-  moves-other t h r e =
-      let x = h r e in
-      record { readable = x .readable; room = x .room; ids = λ type. rw t (x .ids type); count = x .count; places = x .places }
+moves-55 : (l m : Learnt) (k : ℕ) (v : List ℕ) → eqb k 55 ≡ true
+    → Moves (λ type was. idAssigned type was (groupOf v .kind) (groupOf v .id)) l m → Moves (idNoted k v) l m
+moves-55 l m k v t = moves-as l m _ (idNoted k v) (λ type was. rw t)
+
+moves-other : (l m : Learnt) (k : ℕ) (v : List ℕ) → eqb k 55 ≡ false → Moves still l m → Moves (idNoted k v) l m
+moves-other l m k v t = moves-as l m still (idNoted k v) (λ type was. rw t)
 
 not-55 : (k n : ℕ) → (n ≡ 55 → ⊥) → eqb k n ≡ true → eqb k 55 ≡ false
 not-55 k n h e = ne-eqb k 55 (λ q. h (sym (eqb-true k n e) ∙ q))
@@ -233,6 +234,9 @@ module _ (d : Device) (time : Point) where
       pick-both Unaccepted (readable p) _ _ (λ _. x) (λ _. x)
 
 -- an acknowledgement
+roomy : (redirected ninth : Bool) → (redirected || not ninth) ≡ true → redirected ≡ false → ninth ≡ false
+roomy redirected ninth h e = not-true ninth (rw e at h)
+
 module _ (s : State) (id : ℕ) (p : List ℕ) (time : Point) (verdict : ℕ) where
   abbrev learnt : Learnt
   learnt = learntFrom (s .device) (s .registration) (s .assigned) time p
@@ -252,28 +256,35 @@ module _ (s : State) (id : ℕ) (p : List ℕ) (time : Point) (verdict : ℕ) wh
       (λ _. pick-both Regroups (isTakable learnt verdict (s .device .«signed_responses»)) _ _
       (λ t. pick-both Regroups (learnt .redirected) _ _
       (λ _ e. absurd (true≢false (sym e ∙ from-unaccepted (s .device) time (s .registration) (s .assigned) p unaccepted)))
-      (λ _. pick-both Regroups (learnt .«needs_ninth») _ _ (λ _. kept)
-      (λ n _. let x = moves (takable-readable learnt verdict (s .device .«signed_responses») t) n in
-      record { ids = x .ids; count = x .count; places = x .places })))
+      (λ n _. let required = s .device .«signed_responses» in
+      let x = moves (takable-readable learnt verdict required t) (roomy (learnt .redirected) (learnt .«needs_ninth») (takable-placed learnt verdict required t) n) in
+      record { ids = x .ids; count = x .count; places = x .places }))
       (λ _. kept)) (λ _. kept)
 
   abbrev Leaves : State → Type 0
-  Leaves x = x .registration .accepted ≡ s .registration .accepted → x .assigned ≡ s .assigned
+  Leaves x = x .registration .accepted ≡ false → x .assigned ≡ s .assigned
 
-  others : Leaves (acknowledged s id p time verdict)
-  unfolding acknowledged takenBy acceptedBy isAwaited
-  others =
+  leaves : Leaves (acknowledged s id p time verdict)
+  unfolding acknowledged takenBy acceptedBy
+  leaves =
       pick-both Leaves (isAwaited (s .registration) id) _ _
-      (λ w. pick-both Leaves (isTakable learnt verdict (s .device .«signed_responses»)) _ _
-      (λ _. pick-both Leaves (learnt .redirected) _ _ (λ _ _. refl)
-      (λ _. pick-both Leaves (learnt .«needs_ninth») _ _ (λ _ _. refl)
-      (λ _ e. absurd (true≢false (e ∙ not-true _ (both (not (s .registration .accepted)) _ w .0))))))
+      (λ _. pick-both Leaves (isTakable learnt verdict (s .device .«signed_responses»)) _ _
+      (λ _. pick-both Leaves (learnt .redirected) _ _ (λ _ _. refl) (λ _ e. absurd (true≢false e)))
       (λ _ _. refl)) (λ _ _. refl)
+
+  unaccepted : (s .registration .accepted ≡ true) ⊎ (acknowledged s id p time verdict .registration .accepted ≡ false)
+      → acknowledged s id p time verdict .assigned ≡ s .assigned
+  unfolding acknowledged isAwaited
+  unaccepted (inl e) = rw e
+  unaccepted (inr e) = leaves e
 
 -- a datagram
 module _ (s : State) (image : List ℕ) (c : Call) where
-  abbrev Acknowledges : State → Type 0
-  Acknowledges x = (x .assigned ≡ s .assigned) ⊎ ((id : ℕ) × (p : List ℕ) × (x ≡ acknowledged s id p (c .time) (c .verdict)))
+  abbrev Assigns : State → Type 0
+  Assigns x =
+      (x .assigned ≡ s .assigned)
+      ⊎ ((f : Frame) × (frameOf (c .bytes) ≡ Whole f) × (classOf (f .kind) (f .code) ≡ Acknowledgement)
+      × (x ≡ acknowledged s (f .id) (drop (f .payload) (c .bytes)) (c .time) (c .verdict)))
 
   served-leaves : (payload ids : List ℕ) (a : Asks) → servedAs s image (c .store) payload (c .time) (c .verdict) ids a .state .assigned ≡ s .assigned
   unfolding servedAs
@@ -283,23 +294,24 @@ module _ (s : State) (image : List ℕ) (c : Call) where
   served-leaves payload ids (Record id) = refl
   served-leaves payload ids Records = refl
 
-  classed-leaves : (f : Frame) (k : Class) → Acknowledges (classed s image (c .store) (c .bytes) f (c .time) (c .verdict) k .state)
+  classed-assigns : (f : Frame) → frameOf (c .bytes) ≡ Whole f → (k : Class) → classOf (f .kind) (f .code) ≡ k
+      → Assigns (classed s image (c .store) (c .bytes) f (c .time) (c .verdict) k .state)
   unfolding classed replied served
-  classed-leaves f Request = inl (served-leaves (drop (f .payload) (c .bytes)) _ (requestOf (c .bytes) f .asks))
-  classed-leaves f Acknowledgement = inr (f .id, drop (f .payload) (c .bytes), refl)
-  classed-leaves f Rejected = inl refl
-  classed-leaves f Ignored = inl refl
+  classed-assigns f e Request h = inl (served-leaves (drop (f .payload) (c .bytes)) _ (requestOf (c .bytes) f .asks))
+  classed-assigns f e Acknowledgement h = inr (f, e, h, refl)
+  classed-assigns f e Rejected h = inl refl
+  classed-assigns f e Ignored h = inl refl
 
-  received-leaves : (m : Datagram) → Acknowledges (received s image (c .store) (c .bytes) (c .time) (c .verdict) m .state)
+  received-assigns : (m : Datagram) → frameOf (c .bytes) ≡ m → Assigns (received s image (c .store) (c .bytes) (c .time) (c .verdict) m .state)
   unfolding received
-  received-leaves (Whole f) = classed-leaves f (classOf (f .kind) (f .code))
-  received-leaves (Malformed kind id) = inl refl
-  received-leaves Foreign = inl refl
+  received-assigns (Whole f) e = classed-assigns f e (classOf (f .kind) (f .code)) refl
+  received-assigns (Malformed kind id) e = inl refl
+  received-assigns Foreign e = inl refl
 
-  called : Acknowledges (datagramOf s image c .state)
+  called : Assigns (datagramOf s image c .state)
   unfolding datagramOf
   called =
-      pick-both (λ (e : Effect). Acknowledges (e .state)) (eqb (refusal s image c) 0) _ _ (λ _. received-leaves (frameOf (c .bytes))) (λ _. inl refl)
+      pick-both (λ (e : Effect). Assigns (e .state)) (eqb (refusal s image c) 0) _ _ (λ _. received-assigns (frameOf (c .bytes)) refl) (λ _. inl refl)
 
 -- the agent's own datagrams
 module _ (s : State) (r : Registration) (refused : ℕ) where
@@ -319,7 +331,7 @@ unfolding roundOf reportOf bootOf
 groups-by-type =
     record {
       accepted = accepted;
-      others = others;
+      unaccepted = unaccepted;
       called = called;
       rounded =
           λ s out store time.

@@ -1,12 +1,18 @@
--- Groups by type, document 02, Q-3: what an acknowledgement leaves of the groups held. That no two share a type is in `AssignedSized`.
+-- Groups by type, document 02, Q-3: what an acknowledgement makes of the groups held. That no two share a type is in `AssignedSized`.
 use Prim.Native.Nat.{ℕ, _≤_, _<_}
 use mathlib.Core.Path.{_≡_}
 use mathlib.Core.List.{List, [], _∷_}
 use mathlib.Core.Bool.{true, false}
 use mathlib.Core.Logic.{_⊎_}
 use lib.Dec.{eqb}
+use lib.ListN.{drop}
 use Rattle.ack.specs.Take.{acknowledged}
 use Rattle.buffer.specs.Pick.{pick}
+use Rattle.class.specs.Class.{classOf}
+use Rattle.class.specs.declared.Class.the-variants.{Acknowledgement}
+use Rattle.coap.specs.Frame.{frameOf}
+use Rattle.coap.specs.declared.Datagram.the-variants.{Frame as Whole}
+use Rattle.coap.specs.declared.Frame.{Frame}
 use Rattle.decode.specs.Read.{groupOf}
 use Rattle.outgoing.specs.declared.Report.{Report}
 use Rattle.protobuf.specs.declared.Number.{Number}
@@ -27,7 +33,7 @@ unfoldable pub idHeld : List Pair → ℕ → Number
 idHeld [] type = Absent
 idHeld (p ∷ ps) type = pick (eqb (p .kind) type) (Given (p .id)) (idHeld ps type)
 
--- what a complete GroupAssign makes of it
+-- what a GroupAssign makes of it; an incomplete one is ignored
 abbrev pub idAssigned : ℕ → Number → Number → Number → Number
 idAssigned type was (Given kind) (Given id) = pick (eqb kind type) (Given id) was
 idAssigned type was (Given kind) Absent = was
@@ -50,11 +56,12 @@ pub record GroupsByType : Type 0 where
   pub accepted : (s : State) (id : ℕ) (p : List ℕ) (time : Point) (verdict : ℕ) → Made s → s .registration .accepted ≡ false
       → acknowledged s id p time verdict .registration .accepted ≡ true
       → ByType (s .assigned .groups) (acknowledged s id p time verdict .assigned .groups) p
-  pub others : (s : State) (id : ℕ) (p : List ℕ) (time : Point) (verdict : ℕ)
-      → acknowledged s id p time verdict .registration .accepted ≡ s .registration .accepted
+  pub unaccepted : (s : State) (id : ℕ) (p : List ℕ) (time : Point) (verdict : ℕ)
+      → (s .registration .accepted ≡ true) ⊎ (acknowledged s id p time verdict .registration .accepted ≡ false)
       → acknowledged s id p time verdict .assigned ≡ s .assigned
   pub called : (s : State) (image : List ℕ) (c : Call) → (datagramOf s image c .state .assigned ≡ s .assigned)
-      ⊎ ((id : ℕ) × (p : List ℕ) × (datagramOf s image c .state ≡ acknowledged s id p (c .time) (c .verdict)))
+      ⊎ ((f : Frame) × (frameOf (c .bytes) ≡ Whole f) × (classOf (f .kind) (f .code) ≡ Acknowledgement)
+      × (datagramOf s image c .state ≡ acknowledged s (f .id) (drop (f .payload) (c .bytes)) (c .time) (c .verdict)))
   pub rounded : (s : State) (out : ℕ) (store : List ℕ) (time : Point) → roundOf s out store time .state .assigned ≡ s .assigned
   pub reported : (s : State) (out : ℕ) (store : List ℕ) (time : Point) (which : Report) → reportOf s out store time which .state .assigned ≡ s .assigned
   pub booted : (s : State) → bootOf s .assigned ≡ s .assigned

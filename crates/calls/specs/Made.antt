@@ -61,9 +61,9 @@ pub record ImagesSized (d : Device) (i : Images) : Type 0 where
   pub pending : length (i .pending .hash) ≡ 32
   pub backup : length (i .backup .bytes) ≡ 32
 
--- groups 8, no two of one type; session id 64, each report list 32
+-- at most 8 groups in an array of 8, no two of one type; session id 64, each report list 32
 pub record AssignedSized (a : Assigned) : Type 0 where
-  pub pairs : length (a .groups .list) ≡ 8
+  pub list : length (a .groups .list) ≡ 8
   pub groups : a .groups .count ≤ 8
   pub types : TypesDiffer (a .groups)
   pub session : a .session .len ≤ 64

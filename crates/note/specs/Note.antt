@@ -83,7 +83,7 @@ sessionNoted l v = marked (withAssigned l (withSession (l .assigned) v)) (sessio
 unfoldable pub reportNoted : Learnt → List ℕ → Learnt
 reportNoted l v = marked (withAssigned l (withReport (l .assigned) v)) (reportOf v .readable)
 
--- 55: one assignment more; that a ninth group would be needed is noted, since then the whole acknowledgement changes nothing
+-- 55: one assignment more, and whether it would need a ninth group
 abbrev pub withRegrouped : Learnt → Regrouped → Learnt
 withRegrouped l r =
     record {

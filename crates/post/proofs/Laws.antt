@@ -8,7 +8,7 @@ use native.Mathlib.Omega.{arith}
 use borrow.Author.Tests.{eq-eqb, ne-eqb, le-leb, lt-leb}
 use types.Run.{OneOf}
 use lib.Dec.{leb}
-use lib.ListN.{length, drop, getD, length-take, drop-of-length-le}
+use lib.ListN.{length, drop, getD, drop-of-length-le}
 use Rattle.decode.specs.Read.{groupOf}
 use Rattle.protobuf.specs.declared.Number.the-variants.{Given, Absent}
 use Rattle.schedule.specs.declared.Point.{Point}
@@ -61,13 +61,9 @@ unfoldable pub pairFrom : Groups → ℕ → ℕ → ℕ → Bool
 pairFrom g i kind id = anyPair (drop i (heldPairs g)) kind id
 
 module _ (g : Groups) (i kind id : ℕ) where
-  pub pair-past : g .count ≤ i → pairFrom g i kind id ≡ false
+  pub pair-end : length (heldPairs g) ≤ i → pairFrom g i kind id ≡ false
   unfolding pairFrom anyPair
-  pair-past h = rw (drop-of-length-le (heldPairs g) {i = i} (omega (arith, length-take (g .count) (g .list))))
-
-  pub pair-end : length (g .list) ≤ i → pairFrom g i kind id ≡ false
-  unfolding pairFrom anyPair
-  pair-end h = rw (drop-of-length-le (heldPairs g) {i = i} (omega (arith, length-take (g .count) (g .list))))
+  pair-end h = rw (drop-of-length-le (heldPairs g) {i = i} h)
 
   module _ (h : i < g .count) (l : i < length (g .list)) where
     pub pair-here : getD (g .list) i noPair .kind ≡ kind → getD (g .list) i noPair .id ≡ id → pairFrom g i kind id ≡ true

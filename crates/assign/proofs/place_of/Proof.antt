@@ -2,9 +2,9 @@
 use Prim.Native.Nat.{ℕ, _-_, _≤_, _<_}
 use mathlib.Core.Path.{_≡_, sym, _∙_}
 use native.Mathlib.Omega.{arith}
-use lib.ListN.{length, length-map}
+use lib.ListN.{length, length-map, length-take}
 use Rattle.assign.specs.Assign.{placeOf}
-use Rattle.assign.proofs.Laws.{placeFrom, place-start, place-past, place-end, place-here, place-next}
+use Rattle.assign.proofs.Laws.{placeFrom, place-start, place-end, place-here, place-next}
 use Rattle.assign.proofs.place_of.Statement.{statement}
 use Rattle.assign.proofs.place_of.Tie as tie
 
@@ -28,7 +28,8 @@ returns : tie.Need-returns Inv-loop μ-loop
 returns c =
     let a = c .before .before .before .before .before .args in
     let l = c .before .before .before .loop in
-    sym (l .inv .0 ∙ place-past (a .groups) (l .i) (a .kind) (c .if1 .taken))
+    let h = c .if1 .taken in
+    sym (l .inv .0 ∙ place-end (a .groups) (l .i) (a .kind) (omega (arith, length-take (a .groups .count) (a .groups .list))))
 
 mul-pair : tie.Need-mul-pair Inv-loop μ-loop
 mul-pair c = let h = c .before .before .loop-test .taken in omega arith
@@ -65,7 +66,7 @@ returns-3 c =
     let h = c .loop-test .left in
     let b = l .inv .1 in
     let n : l .i ≡ 8 = omega arith in
-    sym (l .inv .0 ∙ place-end (a .groups) (l .i) (a .kind) (omega arith) ∙ n)
+    sym (l .inv .0 ∙ place-end (a .groups) (l .i) (a .kind) (omega (arith, length-take (a .groups .count) (a .groups .list))) ∙ n)
 
 pub place-of-spec : {M : Type 1} → statement M
 place-of-spec =

@@ -3,9 +3,9 @@ use Prim.Native.Nat.{ℕ, _-_, _<_}
 use mathlib.Core.Path.{_≡_, sym, _∙_}
 use mathlib.Core.Logic.{_⊎_, inl, inr}
 use native.Mathlib.Omega.{arith}
-use lib.ListN.{length, length-map}
+use lib.ListN.{length, length-map, length-take}
 use Rattle.post.specs.Value.{hasPair}
-use Rattle.post.proofs.Laws.{pairFrom, pair-start, pair-past, pair-end, pair-here, pair-kind, pair-id}
+use Rattle.post.proofs.Laws.{pairFrom, pair-start, pair-end, pair-here, pair-kind, pair-id}
 use Rattle.post.proofs.value.has_pair.Statement.{statement}
 use Rattle.post.proofs.value.has_pair.Tie as tie
 
@@ -32,7 +32,8 @@ loop-holds c = pair-start _ _ _
 returns : tie.Need-returns Inv-loop μ-loop
 returns c =
     let a = c .before .before .before .before .before .args in
-    sym (c .before .before .before .loop .inv ∙ pair-past (a .groups) (c .before .before .before .loop .i) (a .kind) (a .id) (c .if1 .taken))
+    let h = c .if1 .taken in
+    sym (c .before .before .before .loop .inv ∙ pair-end (a .groups) (c .before .before .before .loop .i) (a .kind) (a .id) (omega (arith, length-take (a .groups .count) (a .groups .list))))
 
 mul-pair : tie.Need-mul-pair Inv-loop μ-loop
 mul-pair c = let h = c .before .before .loop-test .taken in omega arith
@@ -66,7 +67,7 @@ returns-3 c =
     let a = c .before .before .before .args in
     let s = sized (c .before .before .before) in
     let h = c .loop-test .left in
-    sym (c .before .loop .inv ∙ pair-end (a .groups) (c .before .loop .i) (a .kind) (a .id) (omega arith))
+    sym (c .before .loop .inv ∙ pair-end (a .groups) (c .before .loop .i) (a .kind) (a .id) (omega (arith, length-take (a .groups .count) (a .groups .list))))
 
 pub has-pair-spec : {M : Type 1} → statement M
 has-pair-spec =
