@@ -116,6 +116,20 @@ unfolding withReport reportOf
 report-sized a s v =
     record { list = s .list; groups = s .groups; types = s .types; session = s .session; ids = few-listed v 2; heartbeat = few-listed v 4 }
 
+-- what holds after each record that is read, and without one, holds after any
+pub by-record : (d : Device) (time : Point) (l : Learnt) (n : ℕ) (v : List ℕ) (P : Learnt → Type 0)
+    → (eqb n 6 ≡ true → P (redirectNoted d l v)) → (eqb n 7 ≡ true → P (sessionNoted l v)) → (eqb n 13 ≡ true → P (reportNoted l v))
+    → (eqb n 55 ≡ true → P (groupNoted l v)) → (eqb n 76 ≡ true → P (validityNoted l v time)) → (eqb n 77 ≡ true → P (signatureNoted l v))
+    → (eqb n 55 ≡ false → P l) → P (noted d time l n v)
+unfolding noted
+by-record d time l n v P redirect session report group validity signature other =
+    pick-both P (eqb n 6) _ _ redirect
+    (λ _. pick-both P (eqb n 7) _ _ session
+    (λ _. pick-both P (eqb n 13) _ _ report
+    (λ _. pick-both P (eqb n 55) _ _ group
+    (λ e. pick-both P (eqb n 76) _ _ validity
+    (λ _. pick-both P (eqb n 77) _ _ signature (λ _. other e))))))
+
 -- what an acknowledgement says is sized as long as it can be read
 pub record LearntSized (d : Device) (l : Learnt) : Type 0 where
   pub registration : RegistrationSized d (l .registration)
@@ -196,14 +210,9 @@ module _ (d : Device) (k : DeviceSized d) where
       record { registration = s .registration; assigned = s .assigned }
 
   pub noted-sized : (time : Point) (l : Learnt) (n : ℕ) (v : List ℕ) → Learns d l → Learns d (noted d time l n v)
-  unfolding noted
   noted-sized time l n v h =
-      pick-both (Learns d) (eqb n 6) _ _ (λ _. redirect-noted l v h)
-      (λ _. pick-both (Learns d) (eqb n 7) _ _ (λ _. session-noted l v h)
-      (λ _. pick-both (Learns d) (eqb n 13) _ _ (λ _. report-noted l v h)
-      (λ _. pick-both (Learns d) (eqb n 55) _ _ (λ _. group-noted l v h)
-      (λ _. pick-both (Learns d) (eqb n 76) _ _ (λ _. validity-noted l v time h)
-      (λ _. pick-both (Learns d) (eqb n 77) _ _ (λ _. signature-noted l v h) (λ _. h))))))
+      by-record d time l n v (Learns d) (λ _. redirect-noted l v h) (λ _. session-noted l v h) (λ _. report-noted l v h) (λ _. group-noted l v h)
+      (λ _. validity-noted l v time h) (λ _. signature-noted l v h) (λ _. h)
 
   learnt-sized : (time : Point) (l : Learnt) (ts : List Tlv) → Learns d l → Learns d (learntOf d time l ts)
   unfolding learntOf

@@ -6,7 +6,7 @@ use mathlib.Core.Bool.{Bool, true, false, not, _||_, true≢false}
 use mathlib.Core.Logic.{_⊎_, inl, inr}
 use mathlib.Core.Option.{Option, none, some}
 use native.Mathlib.Omega.{arith}
-use borrow.Author.Tests.{eqb-true, ne-eqb, not-true}
+use borrow.Author.Tests.{eqb-true, not-true}
 use lib.Dec.{eqb, leb}
 use lib.ListN.{drop}
 use Rattle.ack.specs.Take.{isAwaited, isTakable, acceptedBy, takenBy, acknowledged}
@@ -47,7 +47,7 @@ use Rattle.calls.specs.Datagram.{Call, Effect, refusal, servedAs, served
 use Rattle.calls.specs.Groups.{idHeld, idAssigned, idAfter, ByType, GroupsByType}
 use Rattle.calls.specs.Made.{Made, DeviceSized}
 use Rattle.calls.specs.Own.{Sending, sending, sendingIf, roundOf, reports, reportOf}
-use Rattle.calls.proofs.AckSizes.{Learns, noted-sized, takable-readable, takable-placed}
+use Rattle.calls.proofs.AckSizes.{by-record, Learns, noted-sized, takable-readable, takable-placed}
 use Rattle.calls.proofs.Pairs.{with-grows, with-places, with-id}
 use Rattle.calls.proofs.Sizes.{made-sized}
 
@@ -154,20 +154,20 @@ moves-55 l m k v t = moves-as l m _ (idNoted k v) (λ type was. rw t)
 moves-other : (l m : Learnt) (k : ℕ) (v : List ℕ) → eqb k 55 ≡ false → Moves still l m → Moves (idNoted k v) l m
 moves-other l m k v t = moves-as l m still (idNoted k v) (λ type was. rw t)
 
-not-55 : (k n : ℕ) → (n ≡ 55 → ⊥) → eqb k n ≡ true → eqb k 55 ≡ false
-not-55 k n h e = ne-eqb k 55 (λ q. h (sym (eqb-true k n e) ∙ q))
+not-55 : (k n : ℕ) → eqb n 55 ≡ false → eqb k n ≡ true → eqb k 55 ≡ false
+not-55 k n h e = rw (eqb-true k n e) h
 
 module _ (d : Device) (time : Point) where
   noted-moves : (l : Learnt) (k : ℕ) (v : List ℕ) → Learns d l → Moves (idNoted k v) l (noted d time l k v)
-  unfolding noted
   noted-moves l k v h =
-      pick-both (Moves (idNoted k v) l) (eqb k 6) _ _ (λ e. moves-other l _ k v (not-55 k 6 (λ q. omega arith) e) (redirect-moves d l v))
-      (λ _. pick-both (Moves (idNoted k v) l) (eqb k 7) _ _ (λ e. moves-other l _ k v (not-55 k 7 (λ q. omega arith) e) (session-moves d l v))
-      (λ _. pick-both (Moves (idNoted k v) l) (eqb k 13) _ _ (λ e. moves-other l _ k v (not-55 k 13 (λ q. omega arith) e) (report-moves d l v))
-      (λ _. pick-both (Moves (idNoted k v) l) (eqb k 55) _ _ (λ e. moves-55 l _ k v e (group-moves d l h v))
-      (λ n. pick-both (Moves (idNoted k v) l) (eqb k 76) _ _ (λ _. moves-other l _ k v n (validity-moves d l v time))
-      (λ _. pick-both (Moves (idNoted k v) l) (eqb k 77) _ _ (λ _. moves-other l _ k v n (signature-moves d l v))
-      (λ _. moves-other l _ k v n (unmoved l l (λ r. r) refl refl)))))))
+      by-record d time l k v (Moves (idNoted k v) l)
+      (λ e. moves-other l _ k v (not-55 k 6 refl e) (redirect-moves d l v))
+      (λ e. moves-other l _ k v (not-55 k 7 refl e) (session-moves d l v))
+      (λ e. moves-other l _ k v (not-55 k 13 refl e) (report-moves d l v))
+      (λ e. moves-55 l _ k v e (group-moves d l h v))
+      (λ e. moves-other l _ k v (not-55 k 76 refl e) (validity-moves d l v time))
+      (λ e. moves-other l _ k v (not-55 k 77 refl e) (signature-moves d l v))
+      (λ e. moves-other l l k v e (unmoved l l (λ r. r) refl refl))
 
   learnt-moves : (l : Learnt) (ts : List Tlv) → DeviceSized d → Learns d l → Moves (λ type was. idAfter type was ts) l (learntOf d time l ts)
   unfolding learntOf idAfter
@@ -213,14 +213,10 @@ module _ (d : Device) (time : Point) where
       pick-both Unaccepted (leb 8 (l .«group_assigns»)) _ _ (λ _. h) (λ _. h)
 
   noted-unaccepted : (l : Learnt) (k : ℕ) (v : List ℕ) → Unaccepted l → Unaccepted (noted d time l k v)
-  unfolding noted redirectNoted redirected sessionNoted reportNoted groupNoted withGroup validityNoted signatureNoted
+  unfolding redirectNoted redirected sessionNoted reportNoted groupNoted withGroup validityNoted signatureNoted
   noted-unaccepted l k v h =
-      pick-both Unaccepted (eqb k 6) _ _ (λ _. follow-unaccepted (l .registration) (urlIn v) _ h)
-      (λ _. pick-both Unaccepted (eqb k 7) _ _ (λ _. h)
-      (λ _. pick-both Unaccepted (eqb k 13) _ _ (λ _. h)
-      (λ _. pick-both Unaccepted (eqb k 55) _ _ (λ _. grouped-unaccepted l (groupOf v .kind) (groupOf v .id) h)
-      (λ _. pick-both Unaccepted (eqb k 76) _ _ (λ _. h)
-      (λ _. pick-both Unaccepted (eqb k 77) _ _ (λ _. h) (λ _. h))))))
+      by-record d time l k v Unaccepted (λ _. follow-unaccepted (l .registration) (urlIn v) _ h) (λ _. h) (λ _. h)
+      (λ _. grouped-unaccepted l (groupOf v .kind) (groupOf v .id) h) (λ _. h) (λ _. h) (λ _. h)
 
   learnt-unaccepted : (l : Learnt) (ts : List Tlv) → Unaccepted l → Unaccepted (learntOf d time l ts)
   unfolding learntOf
