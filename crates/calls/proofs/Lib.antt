@@ -1,6 +1,8 @@
 pub mod OwnSizes
 pub mod Pairs
 pub mod AckSizes
+pub mod AckGroups
+pub mod AckNinth
 pub mod Sizes
 pub mod Groups
 pub mod Complete

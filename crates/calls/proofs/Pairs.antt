@@ -2,9 +2,9 @@
 use Prim.Native.Nat.{ℕ, zero, suc, _+_, _≤_, _<_}
 use mathlib.Core.Path.{_≡_, refl, sym, ap, subst, _∙_}
 use mathlib.Core.List.{List, [], _∷_}
-use mathlib.Core.Bool.{false}
+use mathlib.Core.Bool.{true, false}
 use native.Mathlib.Omega.{arith}
-use borrow.Author.Tests.{leb-false, eqb-true, eqb-false, ne-eqb, ltb-true, ltb-false, lt-ltb, le-ltb}
+use borrow.Author.Tests.{leb-true, leb-false, eqb-true, eqb-false, ne-eqb, ltb-true, ltb-false, lt-ltb, le-ltb}
 use lib.Dec.{eqb, leb, ltb}
 use lib.ListN.{length, take, getD, set, length-set, length-take}
 use lib.Seq.{getD-set-same, getD-set-other, getD-take}
@@ -12,11 +12,11 @@ use Rattle.assign.specs.Assign.{placeIn, placeOf, withPair}
 use Rattle.buffer.specs.Pick.{pick}
 use Rattle.buffer.proofs.Tests.{split, pick-both}
 use Rattle.protobuf.specs.declared.Number.{Number}
-use Rattle.protobuf.specs.declared.Number.the-variants.{Given}
+use Rattle.protobuf.specs.declared.Number.the-variants.{Given, Absent}
 use Rattle.state.specs.Groups.{noPair, heldPairs, typeAt, TypesDiffer}
 use Rattle.state.specs.declared.Groups.{Groups}
 use Rattle.state.specs.declared.Pair.{Pair}
-use Rattle.calls.specs.Groups.{idHeld}
+use Rattle.calls.specs.Groups.{idHeld, Nine}
 
 -- the place of a type: no pair before it is of that type, and one that is held there is
 module _ (kind : ℕ) where
@@ -154,3 +154,37 @@ module _ (g : Groups) (kind id : ℕ) (pairs : length (g .list) ≡ 8) (few : g 
   pub with-id : (type : ℕ) → idHeld (heldPairs (withPair g kind id)) type ≡ pick (eqb kind type) (Given id) (idHeld (heldPairs g) type)
   unfolding withPair
   with-id type = let h = place-free in id-with kind id type (g .list) (g .count) (omega arith)
+
+-- no place for one more: eight types are held, and its own is a ninth
+module _ (g : Groups) (kind : ℕ) (list : length (g .list) ≡ 8) (few : g .count ≤ 8) (full : leb 8 (placeOf g kind) ≡ true) where
+  pub all-held : g .count ≡ 8
+  all-held =
+      let h = leb-true 8 (placeOf g kind) full in
+      let k = place-within kind (heldPairs g) in
+      omega (arith, length-take (g .count) (g .list))
+
+  another : (i : ℕ) → i < 8 → typeAt g i ≡ kind → ⊥
+  another i h e =
+      let k = leb-true 8 (placeOf g kind) full in
+      let c = all-held in
+      place-first kind (heldPairs g) i (omega arith) (rw (getD-take (g .count) (g .list) i noPair (omega arith)) e)
+
+  abbrev ninth : ℕ → ℕ
+  ninth i = pick (ltb i 8) (typeAt g i) kind
+
+  ninth-differs : TypesDiffer g → (i j : ℕ) → i < j → j < 9 → ninth i ≡ ninth j → ⊥
+  ninth-differs d i j h k =
+      let c = all-held in
+      pick-both (λ (x : ℕ). x ≡ ninth j → ⊥) (ltb i 8) _ _
+      (λ s. let a = ltb-true i 8 s in
+      pick-both (λ (y : ℕ). typeAt g i ≡ y → ⊥) (ltb j 8) _ _ (λ t. let b = ltb-true j 8 t in d i j h (omega arith)) (λ _. another i a))
+      (λ s. let a = ltb-false i 8 s in absurd (omega arith))
+
+  pub nine : (f : ℕ → Number) → TypesDiffer g → ((i : ℕ) → i < g .count → f (typeAt g i) ≡ Absent → ⊥) → (f kind ≡ Absent → ⊥) → Nine f
+  nine f d held new =
+      let c = all-held in
+      record {
+        type = ninth;
+        differ = ninth-differs d;
+        held = λ i _. pick-both (λ (x : ℕ). f x ≡ Absent → ⊥) (ltb i 8) _ _ (λ s. let a = ltb-true i 8 s in held i (omega arith)) (λ _. new);
+      }

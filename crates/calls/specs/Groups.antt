@@ -14,6 +14,7 @@ use Rattle.coap.specs.Frame.{frameOf}
 use Rattle.coap.specs.declared.Datagram.the-variants.{Frame as Whole}
 use Rattle.coap.specs.declared.Frame.{Frame}
 use Rattle.decode.specs.Read.{groupOf}
+use Rattle.learn.specs.Learn.{learntFrom}
 use Rattle.outgoing.specs.declared.Report.{Report}
 use Rattle.protobuf.specs.declared.Number.{Number}
 use Rattle.protobuf.specs.declared.Number.the-variants.{Given, Absent}
@@ -51,11 +52,20 @@ pub record ByType (before after : Groups) (p : List ℕ) : Type 0 where
   pub count : before .count ≤ after .count
   pub places : (i : ℕ) → i < before .count → typeAt after i ≡ typeAt before i
 
--- an acknowledgement that is accepted assigns groups by type; nothing else moves what was assigned
+-- nine types would have an id
+pub record Nine (id : ℕ → Number) : Type 0 where
+  pub type : ℕ → ℕ
+  pub differ : (i j : ℕ) → i < j → j < 9 → type i ≡ type j → ⊥
+  pub held : (i : ℕ) → i < 9 → id (type i) ≡ Absent → ⊥
+
+-- an acknowledgement that is accepted assigns groups by type; it is said to need a ninth group only where it does; nothing else moves what was assigned
 pub record GroupsByType : Type 0 where
   pub accepted : (s : State) (id : ℕ) (p : List ℕ) (time : Point) (verdict : ℕ) → Made s → s .registration .accepted ≡ false
       → acknowledged s id p time verdict .registration .accepted ≡ true
       → ByType (s .assigned .groups) (acknowledged s id p time verdict .assigned .groups) p
+  pub ninth : (s : State) (p : List ℕ) (time : Point) → Made s → learntFrom (s .device) (s .registration) (s .assigned) time p .readable ≡ true
+      → learntFrom (s .device) (s .registration) (s .assigned) time p .«needs_ninth» ≡ true
+      → Nine (λ type. idAfter type (idHeld (heldPairs (s .assigned .groups)) type) (records p))
   pub unaccepted : (s : State) (id : ℕ) (p : List ℕ) (time : Point) (verdict : ℕ)
       → (s .registration .accepted ≡ true) ⊎ (acknowledged s id p time verdict .registration .accepted ≡ false)
       → acknowledged s id p time verdict .assigned ≡ s .assigned
