@@ -44,6 +44,15 @@ module _ (kind : ℕ) where
       pick-both (λ (n : ℕ). suc i < n → getD ps i noPair .kind ≡ kind → ⊥) (eqb (p .kind) kind) _ _ (λ _ h. absurd (omega arith))
       (λ _ h. place-first ps i (omega arith))
 
+module _ (g : Groups) (kind : ℕ) where
+  place-count : placeOf g kind ≤ g .count
+  place-count = let h = place-within kind (heldPairs g) in omega (arith, length-take (g .count) (g .list))
+
+  before-place : (i : ℕ) → i < placeOf g kind → typeAt g i ≡ kind → ⊥
+  before-place i h e =
+      let c = place-count in
+      place-first kind (heldPairs g) i h (rw (getD-take (g .count) (g .list) i noPair (omega arith)) e)
+
 -- how many are held with a pair at place k of n
 more : (k n : ℕ) → pick (ltb (suc k) (suc n)) (suc n) (suc k + 1) ≡ suc (pick (ltb k n) n (k + 1))
 more k n =
@@ -86,14 +95,6 @@ module _ (g : Groups) (kind id : ℕ) (pairs : length (g .list) ≡ 8) (few : g 
   place-free : placeOf g kind < 8
   place-free = leb-false 8 (placeOf g kind) room
 
-  place-count : placeOf g kind ≤ g .count
-  place-count = let h = place-within kind (heldPairs g) in omega (arith, length-take (g .count) (g .list))
-
-  before-place : (i : ℕ) → i < placeOf g kind → typeAt g i ≡ kind → ⊥
-  before-place i h e =
-      let c = place-count in
-      place-first kind (heldPairs g) i h (rw (getD-take (g .count) (g .list) i noPair (omega arith)) e)
-
   at-place : placeOf g kind < g .count → typeAt g (placeOf g kind) ≡ kind
   at-place h =
       rw (getD-take (g .count) (g .list) (placeOf g kind) noPair h) at
@@ -130,7 +131,7 @@ module _ (g : Groups) (kind id : ℕ) (pairs : length (g .list) ≡ 8) (few : g 
   was-held : (i : ℕ) → i < withPair g kind id .count → (i ≡ placeOf g kind → ⊥) → i < g .count
   unfolding withPair
   was-held i =
-      let c = place-count in
+      let c = place-count g kind in
       pick-both (λ (n : ℕ). i < n → (i ≡ placeOf g kind → ⊥) → i < g .count) (ltb (placeOf g kind) (g .count)) _ _ (λ _ h _. h) (λ _ h n. omega arith)
 
   -- those held stay at their places
@@ -146,7 +147,7 @@ module _ (g : Groups) (kind id : ℕ) (pairs : length (g .list) ≡ 8) (few : g 
   with-differ d i j h k e =
       split (eqb j (placeOf g kind))
       (λ t. let f = eqb-true j (placeOf g kind) t in
-      before-place i (omega arith) (sym (with-other i (λ q. omega arith)) ∙ e ∙ subst (λ (n : ℕ). typeAt (withPair g kind id) n ≡ kind) (sym f) with-here))
+      before-place g kind i (omega arith) (sym (with-other i (λ q. omega arith)) ∙ e ∙ subst (λ (n : ℕ). typeAt (withPair g kind id) n ≡ kind) (sym f) with-here))
       (λ t. let m = eqb-false j (placeOf g kind) t in
       let l = was-held j k m in
       d i j h l (sym (with-places i (omega arith)) ∙ e ∙ with-other j m))
@@ -160,14 +161,11 @@ module _ (g : Groups) (kind : ℕ) (list : length (g .list) ≡ 8) (few : g .cou
   pub all-held : g .count ≡ 8
   all-held =
       let h = leb-true 8 (placeOf g kind) full in
-      let k = place-within kind (heldPairs g) in
-      omega (arith, length-take (g .count) (g .list))
+      let k = place-count g kind in
+      omega arith
 
   another : (i : ℕ) → i < 8 → typeAt g i ≡ kind → ⊥
-  another i h e =
-      let k = leb-true 8 (placeOf g kind) full in
-      let c = all-held in
-      place-first kind (heldPairs g) i (omega arith) (rw (getD-take (g .count) (g .list) i noPair (omega arith)) e)
+  another i h = let k = leb-true 8 (placeOf g kind) full in before-place g kind i (omega arith)
 
   abbrev ninth : ℕ → ℕ
   ninth i = pick (ltb i 8) (typeAt g i) kind
