@@ -3,7 +3,6 @@ use Prim.Native.Nat.{ℕ}
 use mathlib.Core.Path.{_≡_}
 use mathlib.Core.List.{List}
 use borrow.Author.Tests.{eq-eqb, ne-eqb}
-use Rattle.decode_image.specs.Read.{loadOf}
 use Rattle.csmp.specs.declared.Hash.{Hash}
 use Rattle.decode_image.specs.declared.Load.{Load}
 use Rattle.firmware.specs.declared.Answered.{Answered}
@@ -13,13 +12,13 @@ use Rattle.answer.specs.Answer.{loadTime, Responded}
 use Rattle.answer.specs.declared.Ran.{Ran}
 
 -- the time of a load that was accepted
-pub time-none : (answer : ℕ) (v : List ℕ) → (answer ≡ 0 → ⊥) → Never ≡ loadTime answer v
+pub time-none : (answer : ℕ) (l : Load) → (answer ≡ 0 → ⊥) → Never ≡ loadTime answer l
 unfolding loadTime
-time-none answer v h = rw (ne-eqb answer 0 h)
+time-none answer l h = rw (ne-eqb answer 0 h)
 
-pub time-load : (answer : ℕ) (v : List ℕ) (m : Load) → answer ≡ 0 → m ≡ loadOf v → m .time ≡ loadTime answer v
+pub time-load : (answer : ℕ) (l : Load) → answer ≡ 0 → l .time ≡ loadTime answer l
 unfolding loadTime
-time-load answer v m h e = rw (eq-eqb answer 0 h, e)
+time-load answer l h = rw (eq-eqb answer 0 h)
 
 -- a response, said of what the definitions say
 pub responded : {r : Ran} {a b : Answered} {kind : ℕ} {g h : Hash} {s t : Moment} {out : List ℕ} {next : Ran} {left : List ℕ}

@@ -9,9 +9,10 @@ use lib.ListN.{length, take, drop, set, drop-of-length-le}
 use Rattle.decode.specs.Read.{sessionOf}
 use Rattle.decode.specs.declared.Session.{Session}
 use Rattle.csmp.specs.declared.SessionId.{SessionId}
-use Rattle.find.specs.Find.{bytesIn}
+use Rattle.csmp.specs.Tables.{session}
+use Rattle.tables.specs.Found.{foundIn, bytesIn}
 use Rattle.protobuf.specs.declared.Bytes.the-variants.{At, Absent as NoBytes}
-use Rattle.find.proofs.FindLaws.{bytes-within}
+use Rattle.tables.proofs.TableLies.{lies, place-within}
 use Rattle.buffer.proofs.Tests.{head}
 use Rattle.state.specs.Groups.{heldPairs, noPair, typeAt}
 use Rattle.state.specs.declared.Assigned.{Assigned}
@@ -23,8 +24,9 @@ module _ (a : Assigned) (v : List ℕ) (m : Session) (e : m ≡ sessionOf v) whe
   pub id-inside : (start stop : ℕ) → m .id ≡ At start stop → (start ≤ stop) × (stop ≤ length v)
   unfolding sessionOf
   id-inside start stop h =
-      let k : bytesIn v 1 ≡ At start stop = rw e at h in
-      bytes-within v 1 start stop k
+      let c = foundIn session v .0 .0 in
+      let k : bytesIn c ≡ At start stop = rw e at h in
+      place-within v c (lies session v .0) start stop k
 
   pub session-none : m .id ≡ NoBytes → withSession a v ≡ a
   unfolding withSession

@@ -1,8 +1,8 @@
 -- Laws of the test whether two lists are the same.
 use Prim.Native.Nat.{ℕ, suc, _+_, _≤_, _<_}
-use mathlib.Core.Path.{_≡_, refl, ap, ap₂}
+use mathlib.Core.Path.{_≡_, refl, sym, ap, ap₂, _∙_}
 use mathlib.Core.List.{List, [], _∷_}
-use mathlib.Core.Bool.{Bool, true, false, false≢true}
+use mathlib.Core.Bool.{Bool, true, false, _&&_, false≢true}
 use native.Mathlib.Numerals.{add-one}
 use borrow.Author.Tests.{eq-eqb, ne-eqb, eqb-true}
 use lib.Dec.{eqb}
@@ -31,6 +31,16 @@ module _ (a b : List ℕ) (i : ℕ) (h : i < length a) (k : i < length b) where
   pub same-not : (getD a i 0 ≡ getD b i 0 → ⊥) → sameBytes (drop i a) (drop i b) ≡ false
   unfolding sameBytes
   same-not e = rw (drop-cons a i 0 h, drop-cons b i 0 k, ne-eqb (getD a i 0) (getD b i 0) e)
+
+-- one byte more: where it differs nothing is alike any more
+pub unlike : (t : Bool) {s x : Bool} → s ≡ (t && x) → x ≡ false → s ≡ false
+unlike true e h = e ∙ h
+unlike false e h = e
+
+-- at the end, the whole is the same where all were alike
+pub alike-all : (t : Bool) {s x : Bool} → s ≡ (t && x) → x ≡ true → t ≡ s
+alike-all true e h = sym (e ∙ h)
+alike-all false e h = sym e
 
 pub same-end : (a b : List ℕ) (i : ℕ) → length a ≤ i → length b ≤ i → sameBytes (drop i a) (drop i b) ≡ true
 unfolding sameBytes

@@ -1,4 +1,4 @@
--- One walk over a lent slice, for records and for fields: items follow each other to the slice's end, and one that can't be read ends the reading.
+-- One walk over a lent slice, for records, for fields and for the rows of a table: items follow each other to the slice's end, and one that can't be read ends the reading.
 use Prim.Native.Nat.{ℕ, zero, suc}
 use mathlib.Core.List.{List, [], _∷_}
 use mathlib.Core.Bool.{Bool, true, false}

@@ -114,7 +114,7 @@ module _ (d : Device) (l : Learnt) (h : Learns d l) where
 
   group-moves : (v : List ℕ) → Moves (λ type was. idAssigned type was (groupOf v .kind) (groupOf v .id)) l (groupNoted l v)
   unfolding groupNoted withGroup
-  group-moves v = marked-moves l _ (withGroup l (groupOf v)) (groupOf v .readable) (grouped-moves (groupOf v .kind) (groupOf v .id))
+  group-moves v = marked-moves l _ (withGroup l (groupOf v)) (groupOf v .reading .readable) (grouped-moves (groupOf v .kind) (groupOf v .id))
 
 -- one record, by its type
 abbrev pub idNoted : ℕ → List ℕ → ℕ → Number → Number

@@ -16,22 +16,20 @@ use Rattle.ack.specs.Take.{isAwaited, isTakable, acceptedBy, takenBy, acknowled
 use Rattle.note.specs.declared.Learnt.{Learnt}
 use Rattle.buffer.proofs.Tests.{pick-both, both}
 use Rattle.csmp.specs.Values.{atMost}
-use Rattle.nesting.specs.Readable.{plain}
-use Rattle.decode.specs.Read.{redirectOf, sessionOf, groupOf, validityOf}
-use Rattle.decode_report.specs.Report.{withId, withEntry, withField, withFields, listedIn, reportOf}
+use Rattle.csmp.specs.Tables.{redirect, session}
+use Rattle.tables.specs.Table.{readable as fits}
+use Rattle.decode.specs.Read.{redirectOf, sessionOf, groupOf, validityOf, signatureOf}
+use Rattle.decode_report.specs.Report.{withId, withEntry, withEntries, reportOf}
 use Rattle.decimal.specs.Decimal.{idOf}
 use Rattle.decimal.specs.Ids.{noIds, pushed as listed}
 use Rattle.decimal.specs.declared.Id.{Id}
 use Rattle.decimal.specs.declared.Id.the-variants.{Given as Spells, Nothing}
 use Rattle.decimal.specs.declared.Ids.{Ids}
 use Rattle.post.specs.Judge.{badlySigned}
-use Rattle.protobuf.specs.Field.{fields, bytesOf}
-use Rattle.find.specs.Find.{bytesIn}
 use Rattle.protobuf.specs.Each.{IfAny}
 use Rattle.protobuf.specs.Given.{bytesGiven}
 use Rattle.protobuf.specs.declared.Bytes.{Bytes}
 use Rattle.protobuf.specs.declared.Bytes.the-variants.{At, Absent}
-use Rattle.protobuf.specs.declared.Field.{Field}
 use Rattle.protobuf.specs.declared.Number.{Number}
 use Rattle.protobuf.specs.declared.Number.the-variants.{Given, Absent as NoNumber}
 use Rattle.registration.specs.Redirect.{restarted, isSet, follow, urlIn, redirected}
@@ -62,11 +60,11 @@ module _ (d : Device) (r : Registration) (k : DeviceSized d) (s : RegistrationSi
   follow-sized (some []) immediate h = s
   follow-sized (some (b ∷ bs)) immediate h = record { url = (omega arith, h); interval = (omega arith, k .low .1) }
 
-  pub redirect-sized : (v : List ℕ) → redirectOf v .readable ≡ true → RegistrationSized d (redirected d r v)
+  pub redirect-sized : (v : List ℕ) → redirectOf v .reading .readable ≡ true → RegistrationSized d (redirected d r v)
   unfolding redirected urlIn redirectOf
   redirect-sized v h =
-      let t = both (plain v) (atMost 128 (bytesIn v 1)) h in
-      follow-sized (bytesGiven v (bytesIn v 1)) (isSet (redirectOf v .immediate)) (bytes-short 128 v (bytesIn v 1) (t .1))
+      let t = both (fits redirect v) (atMost 128 (redirectOf v .url)) h in
+      follow-sized (bytesGiven v (redirectOf v .url)) (isSet (redirectOf v .immediate)) (bytes-short 128 v (redirectOf v .url) (t .1))
 
 -- record 7
 in-session-sized : (a : Assigned) → AssignedSized a → (id : Option (List ℕ)) → IfAny (λ (l : List ℕ). length l ≤ 64) id → AssignedSized (inSession a id)
@@ -74,11 +72,11 @@ unfolding sessionIdOf
 in-session-sized a s none h = s
 in-session-sized a s (some id) h = record { list = s .list; groups = s .groups; types = s .types; session = h; ids = s .ids; heartbeat = s .heartbeat }
 
-session-sized : (a : Assigned) → AssignedSized a → (v : List ℕ) → sessionOf v .readable ≡ true → AssignedSized (withSession a v)
+session-sized : (a : Assigned) → AssignedSized a → (v : List ℕ) → sessionOf v .reading .readable ≡ true → AssignedSized (withSession a v)
 unfolding withSession sessionOf
 session-sized a s v h =
-    let t = both (plain v) (atMost 64 (bytesIn v 1)) h in
-    in-session-sized a s (bytesGiven v (bytesIn v 1)) (bytes-short 64 v (bytesIn v 1) (t .1))
+    let t = both (fits session v) (atMost 64 (sessionOf v .id)) h in
+    in-session-sized a s (bytesGiven v (sessionOf v .id)) (bytes-short 64 v (sessionOf v .id) (t .1))
 
 -- record 13: a list takes 32 ids and no more
 abbrev Few : Ids → Type 0
@@ -95,26 +93,15 @@ unfolding withId
 few-id ids (Spells x) h = few-pushed ids x h
 few-id ids Nothing h = h
 
-module _ (v : List ℕ) (n : ℕ) where
-  few-field : (ids : Ids) (f : Field) → Few ids → Few (withField v n ids f)
-  unfolding withField withEntry
-  few-field ids f h =
-      pick-both Few (eqb (f .number) n) _ _
-      (λ _. pick-both Few (eqb (f .wire) 2) _ _ (λ _. few-id ids (idOf (bytesOf v f)) h) (λ _. h)) (λ _. h)
-
-  few-fields : (ids : Ids) (fs : List Field) → Few ids → Few (withFields v n ids fs)
-  unfolding withFields
-  few-fields ids [] h = h
-  few-fields ids (f ∷ fs) h = few-fields (withField v n ids f) fs (few-field ids f h)
-
-  few-listed : Few (listedIn v n)
-  unfolding listedIn
-  few-listed = few-fields noIds (fields v .items) (omega arith)
+few-entries : (ids : Ids) (texts : List (List ℕ)) → Few ids → Few (withEntries ids texts)
+unfolding withEntries withEntry
+few-entries ids [] h = h
+few-entries ids (t ∷ ts) h = few-entries (withEntry ids t) ts (few-id ids (idOf t) h)
 
 report-sized : (a : Assigned) → AssignedSized a → (v : List ℕ) → AssignedSized (withReport a v)
 unfolding withReport reportOf
 report-sized a s v =
-    record { list = s .list; groups = s .groups; types = s .types; session = s .session; ids = few-listed v 2; heartbeat = few-listed v 4 }
+    record { list = s .list; groups = s .groups; types = s .types; session = s .session; ids = few-entries noIds _ (omega arith); heartbeat = few-entries noIds _ (omega arith) }
 
 -- what holds after each record that is read, and without one, holds after any
 pub by-record : (d : Device) (time : Point) (l : Learnt) (n : ℕ) (v : List ℕ) (P : Learnt → Type 0)
@@ -147,21 +134,21 @@ module _ (d : Device) (k : DeviceSized d) where
   redirect-noted : (l : Learnt) (v : List ℕ) → Learns d l → Learns d (redirectNoted d l v)
   unfolding redirectNoted
   redirect-noted l v h e =
-      let t = both (l .readable) (redirectOf v .readable) e in
+      let t = both (l .readable) (redirectOf v .reading .readable) e in
       let s = h (t .0) in
       record { registration = redirect-sized d (l .registration) k (s .registration) v (t .1); assigned = s .assigned }
 
   session-noted : (l : Learnt) (v : List ℕ) → Learns d l → Learns d (sessionNoted l v)
   unfolding sessionNoted
   session-noted l v h e =
-      let t = both (l .readable) (sessionOf v .readable) e in
+      let t = both (l .readable) (sessionOf v .reading .readable) e in
       let s = h (t .0) in
       record { registration = s .registration; assigned = session-sized (l .assigned) (s .assigned) v (t .1) }
 
   report-noted : (l : Learnt) (v : List ℕ) → Learns d l → Learns d (reportNoted l v)
   unfolding reportNoted
   report-noted l v h e =
-      let s = h (both (l .readable) (reportOf v .readable) e .0) in
+      let s = h (both (l .readable) (reportOf v .reading .readable) e .0) in
       record { registration = s .registration; assigned = report-sized (l .assigned) (s .assigned) v }
 
   -- record 55: 8 groups and no more, each of its own type
@@ -195,18 +182,18 @@ module _ (d : Device) (k : DeviceSized d) where
   group-noted : (l : Learnt) (v : List ℕ) → Learns d l → Learns d (groupNoted l v)
   unfolding groupNoted withGroup
   group-noted l v h =
-      marked-sized (withGroup l (groupOf v)) (groupOf v .readable) (grouped-sized l (groupOf v .kind) (groupOf v .id) h)
+      marked-sized (withGroup l (groupOf v)) (groupOf v .reading .readable) (grouped-sized l (groupOf v .kind) (groupOf v .id) h)
 
   validity-noted : (l : Learnt) (v : List ℕ) (time : Point) → Learns d l → Learns d (validityNoted l v time)
   unfolding validityNoted
   validity-noted l v time h e =
-      let s = h (both (l .readable) (validityOf v .readable) e .0) in
+      let s = h (both (l .readable) (validityOf v .reading .readable) e .0) in
       record { registration = s .registration; assigned = s .assigned }
 
   signature-noted : (l : Learnt) (v : List ℕ) → Learns d l → Learns d (signatureNoted l v)
   unfolding signatureNoted
   signature-noted l v h e =
-      let s = h (both (l .readable) (plain v) e .0) in
+      let s = h (both (l .readable) (signatureOf v .readable) e .0) in
       record { registration = s .registration; assigned = s .assigned }
 
   pub noted-sized : (time : Point) (l : Learnt) (n : ℕ) (v : List ℕ) → Learns d l → Learns d (noted d time l n v)

@@ -21,8 +21,8 @@ use Rattle.decode_image.specs.Read.{transferOf, loadOf, hashOf}
 use Rattle.csmp.specs.declared.Image.{Image}
 use Rattle.decode_image.specs.declared.Transfer.{Transfer}
 use Rattle.firmware.specs.Answer.{isOpen}
-use Rattle.loading.specs.Load.{withPending, isPending, openFault, sourceFault, pendingFault, loads, loadsAt, loadAnswered, cancels, cancelAnswered, backs, backupAnswered, booted}
-use Rattle.opening.specs.Open.{sizedTexts, isGiven, numberOr0, isWhole, isOurs, faultOf, openedBy, replaced, opens, openIf, transferAnswered}
+use Rattle.loading.specs.Load.{withPending, isPending, openFault, sourceFault, pendingFault, loads, loadsAt, loadTaken, loadAnswered, cancels, cancelTaken, cancelAnswered, backs, backupTaken, backupAnswered, booted}
+use Rattle.opening.specs.Open.{sizedTexts, isGiven, numberOr0, isWhole, isOurs, faultOf, openedBy, replaced, opens, openIf, transferTaken, transferAnswered}
 use Rattle.firmware.specs.Place.{isHash, hashAt, nameAt, versionAt}
 use Rattle.firmware.specs.declared.Answered.{Answered}
 use Rattle.post.specs.Judge.{lookedAt, judged}
@@ -195,7 +195,7 @@ module _ (d : Device) (i : Images) (s : ImagesSized d i) where
       (λ h. record { running = s .running; opened = λ e. o; number = n; pending = s .pending; backup = s .backup })
 
   transfer-sized : (v : List ℕ) → Answers (transferAnswered d i v)
-  unfolding transferAnswered openIf
+  unfolding transferAnswered transferTaken openIf
   transfer-sized v =
       let t = transferOf v in
       let size = numberOr0 (t .size) in
@@ -221,13 +221,13 @@ module _ (d : Device) (i : Images) (s : ImagesSized d i) where
   loads-at-sized hash Never l = s
 
   load-sized : (v : List ℕ) → Answers (loadAnswered i v)
-  unfolding loadAnswered
+  unfolding loadAnswered loadTaken
   load-sized v =
       pick-both Answers (isHash (loadOf v .hash)) _ _
       (λ h. loads-at-sized (hashAt v (loadOf v .hash)) (loadOf v .time) (hash-long v (loadOf v .hash))) (λ h. s)
 
   cancel-sized : (v : List ℕ) → Answers (cancelAnswered i v)
-  unfolding cancelAnswered cancels
+  unfolding cancelAnswered cancelTaken cancels
   cancel-sized v =
       let hash = hashAt v (hashOf v .hash) in
       pick-both Answers (isHash (hashOf v .hash)) _ _
@@ -235,7 +235,7 @@ module _ (d : Device) (i : Images) (s : ImagesSized d i) where
       (λ p. pick-both Answers (sameBytes (i .running) hash) _ _ (λ r. s) (λ r. s))) (λ h. s)
 
   backup-sized : (v : List ℕ) → Answers (backupAnswered i v)
-  unfolding backupAnswered backs
+  unfolding backupAnswered backupTaken backs
   backup-sized v =
       let hash = hashAt v (hashOf v .hash) in
       pick-both Answers (isHash (hashOf v .hash)) _ _
@@ -281,7 +281,7 @@ pub record WorldSized (d : Device) (w : World) : Type 0 where
   pub images : ImagesSized d (w .images)
   pub registration : RegistrationSized d (w .registration)
 
-readable-redirect : (k : ℕ) (v : List ℕ) → eqb k 6 ≡ true → isReadable k v ≡ true → redirectOf v .readable ≡ true
+readable-redirect : (k : ℕ) (v : List ℕ) → eqb k 6 ≡ true → isReadable k v ≡ true → redirectOf v .reading .readable ≡ true
 unfolding isReadable
 readable-redirect k v e h = rw e at h
 

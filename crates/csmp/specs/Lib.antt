@@ -1,2 +1,3 @@
 pub mod Tables
 pub mod Values
+pub mod Named

@@ -1,5 +1,8 @@
--- The messages of document 000, by their known fields.
-use Rattle.tables.specs.Table.{Table, end, row, uint32, bool, bytes, strings, message}
+-- The messages of document 000 that are read or written, by their known fields.
+use mathlib.Core.List.{List, [], _∷_}
+use Rattle.protobuf.specs.Each.{Each}
+use Rattle.tables.specs.Statements.{Formed}
+use Rattle.tables.specs.Table.{Table, end, row, uint32, bool, bytes, string, strings, message}
 
 -- 1 TlvIndex: tlvid
 abbrev pub tlvIndex : Table
@@ -7,11 +10,11 @@ tlvIndex = row 1 strings end
 
 -- 6 NMSRedirectRequest: url, immediate
 abbrev pub redirect : Table
-redirect = row 1 bytes (row 2 bool end)
+redirect = row 1 string (row 2 bool end)
 
 -- 7 SessionID: id
 abbrev pub session : Table
-session = row 1 bytes end
+session = row 1 string end
 
 -- 13 ReportSubscribe: interval, tlvid, intervalHeartBeat, tlvidHeartBeat
 abbrev pub reportSubscribe : Table
@@ -19,7 +22,7 @@ reportSubscribe = row 1 uint32 (row 2 strings (row 3 uint32 (row 4 strings end))
 
 -- 18 CurrentTime: posix, iso8601, source
 abbrev pub currentTime : Table
-currentTime = row 1 uint32 (row 2 bytes (row 3 uint32 end))
+currentTime = row 1 uint32 (row 2 string (row 3 uint32 end))
 
 -- 55 GroupAssign, 57 GroupMatch, 58 GroupInfo: type, id
 abbrev pub group : Table
@@ -27,11 +30,11 @@ group = row 1 uint32 (row 2 uint32 end)
 
 -- HardwareInfo: hwId, vendorHwId
 abbrev pub hardwareInfo : Table
-hardwareInfo = row 1 bytes (row 2 bytes end)
+hardwareInfo = row 1 string (row 2 string end)
 
 -- 65 TransferRequest: hwInfo, fileHash, fileName, version, fileSize, blockSize
 abbrev pub transferRequest : Table
-transferRequest = row 1 (message hardwareInfo) (row 2 bytes (row 3 bytes (row 4 bytes (row 5 uint32 (row 6 uint32 end)))))
+transferRequest = row 1 (message hardwareInfo) (row 2 bytes (row 3 string (row 4 string (row 5 uint32 (row 6 uint32 end)))))
 
 -- 67 ImageBlock: fileHash, blockNum, blockData
 abbrev pub imageBlock : Table
@@ -56,7 +59,7 @@ loadResponse = row 1 bytes (row 2 uint32 (row 3 uint32 end))
 -- 75 FirmwareImageInfo: index, fileHash, fileName, version, fileSize, blockSize, bitmap, isDefault, isRunning, loadTime, hwInfo, bitmapOffset
 abbrev pub imageInfo : Table
 imageInfo =
-    row 1 uint32 (row 2 bytes (row 3 bytes (row 4 bytes (row 5 uint32 (row 6 uint32
+    row 1 uint32 (row 2 bytes (row 3 string (row 4 string (row 5 uint32 (row 6 uint32
     (row 7 bytes (row 8 bool (row 9 bool (row 10 uint32 (row 11 (message hardwareInfo) (row 12 uint32 end)))))))))))
 
 -- 76 SignatureValidity: notBefore, notAfter
@@ -66,3 +69,13 @@ signatureValidity = row 1 uint32 (row 2 uint32 end)
 -- 77 Signature: value
 abbrev pub signature : Table
 signature = row 1 bytes end
+
+-- every one, in the order of their records
+abbrev pub everyTable : List Table
+everyTable =
+    tlvIndex ∷ redirect ∷ session ∷ reportSubscribe ∷ currentTime ∷ group ∷ transferRequest ∷ imageBlock ∷ loadRequest ∷ imageHash ∷ response
+    ∷ loadResponse ∷ imageInfo ∷ signatureValidity ∷ signature ∷ []
+
+-- numbers ascend, and messages nest at most four deep: what the one reader and the round trip ask of a table
+abbrev pub EveryFormed : Type 0
+EveryFormed = Each Formed everyTable

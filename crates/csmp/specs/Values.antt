@@ -1,7 +1,10 @@
--- What the values of messages share: numbers that are times, and sizes.
+-- What the values of messages share: numbers that are times, sizes, and texts.
 use Prim.Native.Nat.{ℕ, _-_}
+use mathlib.Core.List.{List}
 use mathlib.Core.Bool.{Bool, true}
+use lib.ListN.{take, drop}
 use lib.Dec.{leb}
+use Rattle.buffer.specs.Same.{sameBytes}
 use Rattle.protobuf.specs.declared.Bytes.{Bytes}
 use Rattle.protobuf.specs.declared.Bytes.the-variants.{At, Absent as NoBytes}
 use Rattle.protobuf.specs.declared.Number.{Number}
@@ -33,3 +36,8 @@ intervalNumber NoInterval = Absent
 unfoldable pub atMost : ℕ → Bytes → Bool
 atMost n (At start stop) = leb (stop - start) n
 atMost n NoBytes = true
+
+-- whether the bytes of a field are a text, with an answer for an absent field
+unfoldable pub isText : List ℕ → List ℕ → Bool → Bytes → Bool
+isText text s absent (At start stop) = sameBytes text (take (stop - start) (drop start s))
+isText text s absent NoBytes = absent

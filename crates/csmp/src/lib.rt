@@ -1,9 +1,31 @@
 // The messages of the CSMP draft: their tables (specs/Tables.antt), the values of theirs that the agent keeps and shows, and what values share.
+mod rows;
 mod values;
 
+pub use rows::GROUP_ID;
+pub use rows::GROUP_TYPE;
+pub use rows::HEARTBEAT_INTERVAL;
+pub use rows::HEARTBEAT_TLV_IDS;
+pub use rows::IMAGE_FILE_HASH;
+pub use rows::IMAGE_INDEX;
+pub use rows::IMAGE_LOAD_TIME;
+pub use rows::INTERVAL;
+pub use rows::SESSION_ID;
+pub use rows::TLV_IDS;
+pub use rows::group;
+pub use rows::image_block;
+pub use rows::image_hash;
+pub use rows::load_request;
+pub use rows::redirect;
+pub use rows::report_subscribe;
+pub use rows::session;
+pub use rows::signature;
+pub use rows::signature_validity;
+pub use rows::transfer_request;
 pub use values::at_most;
 pub use values::interval;
 pub use values::interval_number;
+pub use values::is_text;
 pub use values::moment;
 pub use values::moment_number;
 

@@ -1,4 +1,4 @@
-// What the values of messages share: numbers that are times, and sizes.
+// What the values of messages share: numbers that are times, sizes, and texts.
 use protobuf::Bytes;
 use protobuf::Number;
 use schedule::Interval;
@@ -6,7 +6,7 @@ use schedule::Length;
 use schedule::Moment;
 use schedule::Point;
 ghost use mathlib.Core.Path.{_≡_};
-ghost use Rattle.csmp.specs.Values.{momentOf, intervalOf, momentNumber, intervalNumber, atMost};
+ghost use Rattle.csmp.specs.Values.{momentOf, intervalOf, momentNumber, intervalNumber, atMost, isText};
 
 // A number that is a point, and one that is a length.
 pub fn moment(n: Number) -> Moment
@@ -57,4 +57,14 @@ pub fn at_most(b: Bytes, most: usize) -> bool
         return true;
     }
     end - start <= most
+}
+
+// Whether the bytes of a field are a text; `absent` is the answer where there is no such field.
+pub fn is_text(text: &[u8], s: &[u8], place: Bytes, absent: bool) -> bool
+    ensures { λ r. ⌜ r ≡ isText (now (text .entry)) (now (s .entry)) absent place ⌝ }
+{
+    let Bytes::At(start, end) = place else {
+        return absent;
+    };
+    buffer::same(text, buffer::part(s, start, end))
 }

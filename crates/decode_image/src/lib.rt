@@ -1,14 +1,16 @@
-// Reading the messages of the CSMP draft that are about images: whether a value can be read and, of each field, whether it is there and what
-// it is; bytes stay in the value, and positions say where.
+// Reading the messages of the CSMP draft that are about images: what the walk tells of a value and, of each field, whether it is there and what it
+// is; bytes stay in the value, and positions say where.
+use message::Reading;
 use protobuf::Bytes;
 use protobuf::Number;
 use schedule::Moment;
 ghost use mathlib.Core.Path.{_≡_};
-ghost use Rattle.decode_image.specs.Read.{nested, transferOf, blockOf, loadOf, hashOf};
+ghost use mathlib.Core.List.{[]};
+ghost use Rattle.decode_image.specs.Read.{transferOf, blockOf, loadOf, hashOf};
 
 // TransferRequest, record 65.
 pub struct Transfer {
-    pub readable: bool,
+    pub reading: Reading,
     pub hw_id: Bytes,
     pub vendor_hw_id: Bytes,
     pub hash: Bytes,
@@ -20,7 +22,7 @@ pub struct Transfer {
 
 // ImageBlock, record 67.
 pub struct Block {
-    pub readable: bool,
+    pub reading: Reading,
     pub hash: Bytes,
     pub number: Number,
     pub data: Bytes,
@@ -28,39 +30,32 @@ pub struct Block {
 
 // LoadRequest, record 68.
 pub struct Load {
-    pub readable: bool,
+    pub reading: Reading,
     pub hash: Bytes,
     pub time: Moment,
 }
 
 // CancelLoadRequest and SetBackupRequest, records 69 and 70.
 pub struct ImageHash {
-    pub readable: bool,
+    pub reading: Reading,
     pub hash: Bytes,
-}
-
-// The shape of TransferRequest: its field 1 holds a HardwareInfo.
-const TRANSFER: [u32; 2] = [1, 0];
-
-fn transfer_readable(v: &[u8]) -> bool
-    ensures { λ r. ⌜ r ≡ nested (now (v .entry)) ⌝ }
-{
-    nesting::readable(v, &TRANSFER)
 }
 
 pub fn read_transfer(v: &[u8]) -> Transfer
     ensures { λ r. ⌜ r ≡ transferOf (now (v .entry)) ⌝ }
 {
-    let readable = transfer_readable(v);
-    let hw_id = find::part_bytes(v, 1, 1);
-    let vendor_hw_id = find::part_bytes(v, 1, 2);
-    let hash = find::last_bytes(v, 2);
-    let name = find::last_bytes(v, 3);
-    let version = find::last_bytes(v, 4);
-    let size = find::last_number(v, 5);
-    let block_size = find::last_number(v, 6);
+    let mut cells = [0usize; 24];
+    let table = csmp::transfer_request();
+    let reading = message::read(v, &table, &mut cells);
+    let hw_id = message::bytes(cells[3], cells[4], cells[5]);
+    let vendor_hw_id = message::bytes(cells[6], cells[7], cells[8]);
+    let hash = message::bytes(cells[9], cells[10], cells[11]);
+    let name = message::bytes(cells[12], cells[13], cells[14]);
+    let version = message::bytes(cells[15], cells[16], cells[17]);
+    let size = message::number(cells[18], cells[19]);
+    let block_size = message::number(cells[21], cells[22]);
     Transfer {
-        readable,
+        reading,
         hw_id,
         vendor_hw_id,
         hash,
@@ -71,30 +66,46 @@ pub fn read_transfer(v: &[u8]) -> Transfer
     }
 }
 
-// The draft numbers the data 4.
 pub fn read_block(v: &[u8]) -> Block
     ensures { λ r. ⌜ r ≡ blockOf (now (v .entry)) ⌝ }
 {
-    let readable = nesting::plain_readable(v);
-    let hash = find::last_bytes(v, 1);
-    let number = find::last_number(v, 2);
-    let data = find::last_bytes(v, 4);
+    let mut cells = [0usize; 9];
+    let table = csmp::image_block();
+    let reading = message::read(v, &table, &mut cells);
+    let hash = message::bytes(cells[0], cells[1], cells[2]);
+    let number = message::number(cells[3], cells[4]);
+    let data = message::bytes(cells[6], cells[7], cells[8]);
     Block {
-        readable,
+        reading,
         hash,
         number,
         data,
     }
 }
 
+// What a value of no bytes says.
+pub fn no_block() -> Block
+    ensures { λ r. ⌜ r ≡ blockOf [] ⌝ }
+{
+    let reading = message::empty();
+    Block {
+        reading,
+        hash: Bytes::Absent,
+        number: Number::Absent,
+        data: Bytes::Absent,
+    }
+}
+
 pub fn read_load(v: &[u8]) -> Load
     ensures { λ r. ⌜ r ≡ loadOf (now (v .entry)) ⌝ }
 {
-    let readable = nesting::plain_readable(v);
-    let hash = find::last_bytes(v, 1);
-    let time = csmp::moment(find::last_number(v, 2));
+    let mut cells = [0usize; 6];
+    let table = csmp::load_request();
+    let reading = message::read(v, &table, &mut cells);
+    let hash = message::bytes(cells[0], cells[1], cells[2]);
+    let time = csmp::moment(message::number(cells[3], cells[4]));
     Load {
-        readable,
+        reading,
         hash,
         time,
     }
@@ -103,7 +114,9 @@ pub fn read_load(v: &[u8]) -> Load
 pub fn read_hash(v: &[u8]) -> ImageHash
     ensures { λ r. ⌜ r ≡ hashOf (now (v .entry)) ⌝ }
 {
-    let readable = nesting::plain_readable(v);
-    let hash = find::last_bytes(v, 1);
-    ImageHash { readable, hash }
+    let mut cells = [0usize; 3];
+    let table = csmp::image_hash();
+    let reading = message::read(v, &table, &mut cells);
+    let hash = message::bytes(cells[0], cells[1], cells[2]);
+    ImageHash { reading, hash }
 }

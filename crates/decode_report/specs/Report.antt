@@ -1,19 +1,20 @@
--- The reader of record 13, ReportSubscribe: whether a value can be read by its table, and its fields.
+-- The reader of record 13, ReportSubscribe: what the walk by its table tells of a value, and its fields by the rows of the table.
 use Prim.Native.Nat.{ℕ}
 use mathlib.Core.List.{List, [], _∷_}
 use mathlib.Core.Bool.{Bool, _&&_}
-use lib.Dec.{eqb, leb}
-use Rattle.buffer.specs.Pick.{pick}
+use lib.Dec.{leb}
 use Rattle.decimal.specs.Decimal.{idOf}
 use Rattle.decimal.specs.Ids.{noIds, pushed}
 use Rattle.decimal.specs.declared.Ids.{Ids}
 use Rattle.decimal.specs.declared.Id.{Id}
 use Rattle.decimal.specs.declared.Id.the-variants.{Given as Spells, Nothing}
-use Rattle.protobuf.specs.Field.{fields, bytesOf}
-use Rattle.protobuf.specs.declared.Field.{Field}
-use Rattle.find.specs.Find.{countIn, numberIn}
-use Rattle.nesting.specs.Readable.{plain}
+use Rattle.message.specs.Read.{limited}
+use Rattle.message.specs.declared.Reading.{Reading}
+use Rattle.tables.specs.Table.{strings, Values, contentOf, contents, valueOf, readBy}
+use Rattle.tables.specs.Found.{Cell, Found, foundIn, numberIn, readingOf}
+use Rattle.csmp.specs.Tables.{reportSubscribe}
 use Rattle.csmp.specs.Values.{intervalOf}
+use Rattle.protobuf.specs.declared.Field.{Field}
 use Rattle.decode_report.specs.declared.Report.{Report}
 
 -- entries of a list that are no decimal ids are ignored
@@ -24,26 +25,31 @@ withId ids Nothing = ids
 unfoldable pub withEntry : Ids → List ℕ → Ids
 withEntry ids text = withId ids (idOf text)
 
-unfoldable pub withField : List ℕ → ℕ → Ids → Field → Ids
-withField v n ids f = pick (eqb (f .number) n) (pick (eqb (f .wire) 2) (withEntry ids (bytesOf v f)) ids) ids
+unfoldable pub withEntries : Ids → List (List ℕ) → Ids
+withEntries ids [] = ids
+withEntries ids (t ∷ ts) = withEntries (withEntry ids t) ts
 
-unfoldable pub withFields : List ℕ → ℕ → Ids → List Field → Ids
-withFields v n ids [] = ids
-withFields v n ids (f ∷ fs) = withFields v n (withField v n ids f) fs
+-- the ids among the entries of the list of number n: of one field, and of a value
+unfoldable pub withField : List ℕ → ℕ → Ids → Field → Ids
+withField v n ids f = withEntries ids (valueOf strings n (contentOf v f ∷ []))
 
 unfoldable pub listedIn : List ℕ → ℕ → Ids
-listedIn v n = withFields v n noIds (fields v .items)
+listedIn v n = withEntries noIds (valueOf strings n (contents v))
 
 -- a list has at most 32 entries, ignored ones counted
-unfoldable pub fewIn : List ℕ → ℕ → Bool
-fewIn v n = leb (countIn v n 2) 32
+unfoldable pub few : Cell → Bool
+few c = leb (c .count) 32
+
+-- interval, tlvid, intervalHeartBeat, tlvidHeartBeat
+abbrev pub reportBy : Reading → Found reportSubscribe → Values reportSubscribe → Report
+reportBy r f t =
+    record {
+      reading = limited r (few (f .1 .0 .0) && few (f .1 .1 .1 .0 .0));
+      interval = intervalOf (numberIn (f .0 .0));
+      ids = withEntries noIds (t .1 .0);
+      heartbeat = intervalOf (numberIn (f .1 .1 .0 .0));
+      «heartbeat_ids» = withEntries noIds (t .1 .1 .1 .0);
+    }
 
 unfoldable pub reportOf : List ℕ → Report
-reportOf v =
-    record {
-      readable = plain v && (fewIn v 2 && fewIn v 4);
-      interval = intervalOf (numberIn v 1);
-      ids = listedIn v 2;
-      heartbeat = intervalOf (numberIn v 3);
-      «heartbeat_ids» = listedIn v 4;
-    }
+reportOf v = reportBy (readingOf reportSubscribe v) (foundIn reportSubscribe v) (readBy reportSubscribe v)

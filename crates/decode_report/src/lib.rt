@@ -1,17 +1,19 @@
 // Reading a ReportSubscribe, the message of the CSMP draft whose fields list ids.
 use decimal::Id;
 use decimal::Ids;
+use message::Reading;
 use protobuf::Field;
 use protobuf::Step;
 use schedule::Interval;
 ghost use mathlib.Core.Path.{_≡_};
 ghost use lib.ListN.{length};
+ghost use lib.Dec.{leb};
 ghost use Prim.Native.Nat.{_≤_};
-ghost use Rattle.decode_report.specs.Report.{withEntry, withField, listedIn, fewIn, reportOf};
+ghost use Rattle.decode_report.specs.Report.{withEntry, withField, listedIn, reportOf};
 
 // ReportSubscribe, record 13: the primary report and the heartbeat.
 pub struct Report {
-    pub readable: bool,
+    pub reading: Reading,
     pub interval: Interval,
     pub ids: Ids,
     pub heartbeat: Interval,
@@ -60,27 +62,30 @@ fn read_ids(v: &[u8], number: u32) -> Ids
     ids
 }
 
-// Whether the list `number` has at most 32 entries.
-fn few_entries(v: &[u8], number: u32) -> bool
-    ensures { λ r. ⌜ r ≡ fewIn (now (v .entry)) number ⌝ }
+// Whether a list has at most 32 entries.
+fn is_few(count: usize) -> bool
+    ensures { λ r. ⌜ r ≡ leb count 32 ⌝ }
 {
-    find::count(v, number, 2) <= 32
+    count <= 32
 }
 
 pub fn read_report(v: &[u8]) -> Report
     ensures { λ r. ⌜ r ≡ reportOf (now (v .entry)) ⌝ }
 {
-    let few = buffer::both(few_entries(v, 2), few_entries(v, 4));
-    let readable = buffer::both(nesting::plain_readable(v), few);
-    let every = csmp::interval(find::last_number(v, 1));
-    let beat = csmp::interval(find::last_number(v, 3));
-    let ids = read_ids(v, 2);
-    let heartbeat_ids = read_ids(v, 4);
+    let mut cells = [0usize; 12];
+    let table = csmp::report_subscribe();
+    let told = message::read(v, &table, &mut cells);
+    let interval = csmp::interval(message::number(cells[0], cells[1]));
+    let heartbeat = csmp::interval(message::number(cells[6], cells[7]));
+    let few = buffer::both(is_few(cells[3]), is_few(cells[9]));
+    let reading = message::limit(told, few);
+    let ids = read_ids(v, csmp::TLV_IDS);
+    let heartbeat_ids = read_ids(v, csmp::HEARTBEAT_TLV_IDS);
     Report {
-        readable,
-        interval: every,
+        reading,
+        interval,
         ids,
-        heartbeat: beat,
+        heartbeat,
         heartbeat_ids,
     }
 }

@@ -69,7 +69,7 @@ unfolding texts each
 texts-each n [] = refl
 texts-each n (id ∷ ids) = ap (λ (l : List ℕ). bytesField n (decimal id) ++ l) (texts-each n ids)
 
-decimal-most : (id : ℕ) → length (decimal id) ≤ 10
+pub decimal-most : (id : ℕ) → length (decimal id) ≤ 10
 unfolding decimal
 decimal-most id = omega (arith, digits-most 9 id [])
 

@@ -54,7 +54,12 @@ pub fn put_session(out: &mut [u8], at: usize, id: SessionId) -> usize
 {
     let mut value = [0u8; 128];
     let bytes = id.bytes;
-    let n = protobuf::put_bytes(&mut value, 0, 1, buffer::front(&bytes, id.len));
+    let n = protobuf::put_bytes(
+        &mut value,
+        0,
+        csmp::SESSION_ID,
+        buffer::front(&bytes, id.len),
+    );
     tlv::put(out, at, 7, &value[..n])
 }
 
@@ -72,10 +77,25 @@ pub fn put_report(
     let mut value = [0u8; 2048];
     let primary = ids.list;
     let beat = heartbeat_ids.list;
-    let a = protobuf::put_given(&mut value, 0, 1, csmp::interval_number(interval));
-    let b = put_texts(&mut value, a, 2, front_ids(&primary, ids.count));
-    let c = protobuf::put_given(&mut value, b, 3, csmp::interval_number(heartbeat));
-    let n = put_texts(&mut value, c, 4, front_ids(&beat, heartbeat_ids.count));
+    let a = protobuf::put_given(
+        &mut value,
+        0,
+        csmp::INTERVAL,
+        csmp::interval_number(interval),
+    );
+    let b = put_texts(&mut value, a, csmp::TLV_IDS, front_ids(&primary, ids.count));
+    let c = protobuf::put_given(
+        &mut value,
+        b,
+        csmp::HEARTBEAT_INTERVAL,
+        csmp::interval_number(heartbeat),
+    );
+    let n = put_texts(
+        &mut value,
+        c,
+        csmp::HEARTBEAT_TLV_IDS,
+        front_ids(&beat, heartbeat_ids.count),
+    );
     tlv::put(out, at, 13, &value[..n])
 }
 
@@ -93,7 +113,7 @@ pub fn put_group(out: &mut [u8], at: usize, kind: u32, id: u32) -> usize
     ensures { λ r. ⌜ Put (now (out .entry)) at (groupRecord kind id) (now (out .exit)) r ⌝ }
 {
     let mut value = [0u8; 64];
-    let a = protobuf::put_number(&mut value, 0, 1, kind as u64);
-    let n = protobuf::put_number(&mut value, a, 2, id as u64);
+    let a = protobuf::put_number(&mut value, 0, csmp::GROUP_TYPE, kind as u64);
+    let n = protobuf::put_number(&mut value, a, csmp::GROUP_ID, id as u64);
     tlv::put(out, at, 58, &value[..n])
 }

@@ -11,7 +11,7 @@ use Rattle.protobuf.specs.Write.{numberField, bytesField, ifAny}
 use Rattle.protobuf.proofs.SizeLaws.{take-most, answer-most}
 use Rattle.schedule.specs.declared.Moment.{Moment}
 use Rattle.tables.specs.Table.{written, writeBy}
-use Rattle.tables.proofs.TableSizes.{stop, field, delimited-most, number, flag, held, held-if, no-number, no-flag, no-bytes, no-message}
+use Rattle.tables.proofs.TableSizes.{stop, field, delimited-most, number, flag, held, text-if, no-number, no-flag, no-bytes, no-string, no-message}
 use Rattle.varint.proofs.Laws.{varint-1, delimited-length}
 use Rattle.csmp.specs.Values.{momentNumber}
 use Rattle.csmp.specs.declared.Hash.{Hash}
@@ -39,57 +39,63 @@ response-record-most kind h answer time k l a t =
     omega (arith, delimited-length kind (x ++ (y ++ (z ++ []))), varint-1 kind k, varint-1 (length (x ++ (y ++ (z ++ [])))) (omega arith))
 
 module _ (hash : List ℕ) (k : length hash ≡ 32) where
-  pub running-most : length (runningRecord hash) ≤ 132
+  pub running-most : length (runningRecord hash) ≤ 71
   unfolding runningRecord
   running-most =
       delimited-most 75
-      (field (number 1 _)
-      (field (held 2 32 hash (le-of-eq k))
-      (field (no-bytes 3)
-      (field (no-bytes 4)
+      (field (number 1 (omega arith) _)
+      (field (held 2 (omega arith) 32 (omega arith) hash (le-of-eq k))
+      (field (no-string 3)
+      (field (no-string 4)
       (field (no-number 5)
       (field (no-number 6)
       (field (no-bytes 7)
       (field (no-flag 8)
-      (field (flag 9 _)
-      (field (number 10 _)
+      (field (flag 9 (omega arith) _)
+      (field (number 10 (omega arith) _)
       (field (no-message 11 _)
       (field (no-number 12)
       stop))))))))))))
+      (omega arith)
+      (omega arith)
 
-  pub backup-most : (time : Moment) → length (backupRecord hash time) ≤ 112
+  pub backup-most : (time : Moment) → length (backupRecord hash time) ≤ 60
   unfolding backupRecord
   backup-most time =
       delimited-most 75
-      (field (number 1 _)
-      (field (held 2 32 hash (le-of-eq k))
-      (field (no-bytes 3)
-      (field (no-bytes 4)
+      (field (number 1 (omega arith) _)
+      (field (held 2 (omega arith) 32 (omega arith) hash (le-of-eq k))
+      (field (no-string 3)
+      (field (no-string 4)
       (field (no-number 5)
       (field (no-number 6)
       (field (no-bytes 7)
       (field (no-flag 8)
       (field (no-flag 9)
-      (field (number 10 _)
+      (field (number 10 (omega arith) _)
       (field (no-message 11 _)
       (field (no-number 12)
       stop))))))))))))
+      (omega arith)
+      (omega arith)
 
 pub open-most : (i : Image) (n : ℕ) (time : Moment) → length (i .hash) ≡ 32 → length (i .name .bytes) ≡ 128 → length (i .version .bytes) ≡ 32
-    → length (i .bitmap) ≡ 128 → length (openRecord i n time) ≤ 500
+    → length (i .bitmap) ≡ 128 → length (openRecord i n time) ≤ 379
 unfolding openRecord
 open-most i n time h k l m =
     delimited-most 75
-    (field (number 1 _)
-    (field (held 2 32 (i .hash) (le-of-eq h))
-    (field (held-if 3 128 (i .name .len) (i .name .given) (i .name .bytes) k)
-    (field (held-if 4 32 (i .version .len) (i .version .given) (i .version .bytes) l)
-    (field (number 5 _)
-    (field (number 6 _)
-    (field (held 7 128 _ (take-most n 128 (i .bitmap) m))
+    (field (number 1 (omega arith) _)
+    (field (held 2 (omega arith) 32 (omega arith) (i .hash) (le-of-eq h))
+    (field (text-if 3 (omega arith) 128 (omega arith) (i .name .len) (i .name .given) (i .name .bytes) k)
+    (field (text-if 4 (omega arith) 32 (omega arith) (i .version .len) (i .version .given) (i .version .bytes) l)
+    (field (number 5 (omega arith) _)
+    (field (number 6 (omega arith) _)
+    (field (held 7 (omega arith) 128 (omega arith) _ (take-most n 128 (i .bitmap) m))
     (field (no-flag 8)
     (field (no-flag 9)
-    (field (number 10 _)
+    (field (number 10 (omega arith) _)
     (field (no-message 11 _)
     (field (no-number 12)
     stop))))))))))))
+    (omega arith)
+    (omega arith)

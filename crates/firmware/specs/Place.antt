@@ -8,7 +8,6 @@ use lib.Seq.{sets}
 use Rattle.csmp.specs.declared.Hash.{Hash}
 use Rattle.csmp.specs.declared.Name.{Name}
 use Rattle.csmp.specs.declared.Version.{Version}
-use Rattle.find.specs.Find.{bytesIn}
 use Rattle.protobuf.specs.declared.Bytes.{Bytes}
 use Rattle.protobuf.specs.declared.Bytes.the-variants.{At, Absent}
 
@@ -24,9 +23,9 @@ unfoldable pub hashAt : List ℕ → Bytes → List ℕ
 hashAt v (At start stop) = sets (replicate 32 0) 0 (bytesAt v start stop)
 hashAt v Absent = replicate 32 0
 
--- responses echo a hash of 32 bytes, else none; it is the field of that number
-unfoldable pub echoed : List ℕ → ℕ → Hash
-echoed v n = record { given = isHash (bytesIn v n); bytes = hashAt v (bytesIn v n) }
+-- responses echo a hash of 32 bytes, else none
+unfoldable pub echoed : List ℕ → Bytes → Hash
+echoed v place = record { given = isHash place; bytes = hashAt v place }
 
 unfoldable pub nameAt : List ℕ → Bytes → Name
 nameAt v (At start stop) = record { given = true; bytes = sets (replicate 128 0) 0 (bytesAt v start stop); len = length (bytesAt v start stop) }

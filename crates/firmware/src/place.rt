@@ -33,11 +33,10 @@ pub fn hash_at(v: &[u8], place: Bytes) -> [u8; 32]
     bytes
 }
 
-// The hash that a response echoes: the field of that number where it has 32 bytes, else none.
-pub fn echo(v: &[u8], number: u32) -> Hash
-    ensures { λ r. ⌜ r ≡ echoed (now (v .entry)) number ⌝ }
+// The hash that a response echoes: that of the request where it has 32 bytes, else none.
+pub fn echo(v: &[u8], place: Bytes) -> Hash
+    ensures { λ r. ⌜ r ≡ echoed (now (v .entry)) place ⌝ }
 {
-    let place = find::last_bytes(v, number);
     let given = is_hash(place);
     let bytes = hash_at(v, place);
     Hash { given, bytes }

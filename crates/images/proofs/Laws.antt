@@ -88,17 +88,17 @@ pub record ImagesSized (i : Images) : Type 0 where
   pub backup : length (i .backup .bytes) ≡ 32
 
 module _ (i : Images) (s : ImagesSized i) where
-  open-shown-most : length (openShown i) ≤ 500
+  open-shown-most : length (openShown i) ≤ 379
   unfolding openShown
   open-shown-most =
-      shown-most (i .«open») _ 500
+      shown-most (i .«open») _ 379
       (open-most (i .image) (mapLength (i .image)) (loadTimeOf (i .pending) (i .image .hash)) (s .hash) (s .name) (s .version) (s .bitmap))
 
-  backup-shown-most : length (backupShown i) ≤ 112
+  backup-shown-most : length (backupShown i) ≤ 60
   unfolding backupShown
-  backup-shown-most = shown-most (i .backup .given) _ 112 (backup-most (i .backup .bytes) (s .backup) (loadTimeOf (i .pending) (i .backup .bytes)))
+  backup-shown-most = shown-most (i .backup .given) _ 60 (backup-most (i .backup .bytes) (s .backup) (loadTimeOf (i .pending) (i .backup .bytes)))
 
-  pub images-most : length (imagesShown i) ≤ 744
+  pub images-most : length (imagesShown i) ≤ 510
   unfolding imagesShown
   images-most =
       let o = open-shown-most in

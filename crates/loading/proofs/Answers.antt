@@ -4,7 +4,6 @@ use mathlib.Core.Path.{_≡_}
 use mathlib.Core.List.{List}
 use mathlib.Core.Bool.{true, false}
 use borrow.Author.Tests.{eq-eqb, ne-eqb}
-use Rattle.decode_image.specs.Read.{loadOf, hashOf}
 use Rattle.decode_image.specs.declared.ImageHash.{ImageHash}
 use Rattle.decode_image.specs.declared.Load.{Load}
 use Rattle.schedule.specs.declared.Moment.the-variants.{At as On, Absent as Never}
@@ -14,7 +13,7 @@ use Rattle.state.specs.declared.Images.{Images}
 use Rattle.state.specs.declared.Pending.{Pending}
 use Rattle.firmware.specs.Place.{isHash, hashAt}
 use Rattle.firmware.specs.Answer.{unchanged}
-use Rattle.loading.specs.Load.{withPending, withBackup, openFault, sourceFault, pendingFault, loads, loadsAt, loadAnswered, cancels, cancelAnswered, backs, backupAnswered, booted}
+use Rattle.loading.specs.Load.{withPending, withBackup, openFault, sourceFault, pendingFault, loads, loadsAt, loadTaken, cancels, cancelTaken, backs, backupTaken, booted}
 
 -- a load: the first fault answers, and without one the hash becomes pending
 module _ (i : Images) (hash : List ℕ) (time : Point) where
@@ -47,43 +46,43 @@ module _ (i : Images) (hash : List ℕ) where
   backs-now {n} e h k = rw (← e, eq-eqb n 0 h, k)
 
 -- a LoadRequest by its hash and its time
-module _ (v : List ℕ) (l : Load) (e : l ≡ loadOf v) where
+module _ (v : List ℕ) (l : Load) where
   module _ (i : Images) where
-    pub load-bad : isHash (l .hash) ≡ false → loadAnswered i v ≡ unchanged i 6
-    unfolding loadAnswered
-    load-bad h = rw (← e, h)
+    pub load-bad : isHash (l .hash) ≡ false → loadTaken i v l ≡ unchanged i 6
+    unfolding loadTaken
+    load-bad h = rw (h)
 
-    pub load-never : isHash (l .hash) ≡ true → l .time ≡ Never → loadAnswered i v ≡ unchanged i 6
-    unfolding loadAnswered loadsAt
-    load-never h g = rw (← e, h, g)
+    pub load-never : isHash (l .hash) ≡ true → l .time ≡ Never → loadTaken i v l ≡ unchanged i 6
+    unfolding loadTaken loadsAt
+    load-never h g = rw (h, g)
 
-    pub load-zero : {t : Point} → isHash (l .hash) ≡ true → l .time ≡ On t → t .0 ≡ 0 → loadAnswered i v ≡ unchanged i 6
-    unfolding loadAnswered loadsAt
-    load-zero {t} h g k = rw (← e, h, g, eq-eqb (t .0) 0 k)
+    pub load-zero : {t : Point} → isHash (l .hash) ≡ true → l .time ≡ On t → t .0 ≡ 0 → loadTaken i v l ≡ unchanged i 6
+    unfolding loadTaken loadsAt
+    load-zero {t} h g k = rw (h, g, eq-eqb (t .0) 0 k)
 
     pub load-at : {t : Point} → isHash (l .hash) ≡ true → l .time ≡ On t → (t .0 ≡ 0 → ⊥)
-        → loadAnswered i v ≡ loads i (hashAt v (l .hash)) t
-    unfolding loadAnswered loadsAt
-    load-at {t} h g k = rw (← e, h, g, ne-eqb (t .0) 0 k)
+        → loadTaken i v l ≡ loads i (hashAt v (l .hash)) t
+    unfolding loadTaken loadsAt
+    load-at {t} h g k = rw (h, g, ne-eqb (t .0) 0 k)
 
 -- a CancelLoadRequest and a SetBackupRequest by their hash
-module _ (v : List ℕ) (x : ImageHash) (e : x ≡ hashOf v) where
+module _ (v : List ℕ) (x : ImageHash) where
   module _ (i : Images) where
-    pub cancel-bad : isHash (x .hash) ≡ false → cancelAnswered i v ≡ unchanged i 6
-    unfolding cancelAnswered
-    cancel-bad h = rw (← e, h)
+    pub cancel-bad : isHash (x .hash) ≡ false → cancelTaken i v x ≡ unchanged i 6
+    unfolding cancelTaken
+    cancel-bad h = rw (h)
 
-    pub cancel-this : {hash : List ℕ} → isHash (x .hash) ≡ true → hash ≡ hashAt v (x .hash) → cancelAnswered i v ≡ cancels i hash
-    unfolding cancelAnswered
-    cancel-this h k = rw (← e, h, k)
+    pub cancel-this : {hash : List ℕ} → isHash (x .hash) ≡ true → hash ≡ hashAt v (x .hash) → cancelTaken i v x ≡ cancels i hash
+    unfolding cancelTaken
+    cancel-this h k = rw (h, k)
 
-    pub backup-bad : isHash (x .hash) ≡ false → backupAnswered i v ≡ unchanged i 6
-    unfolding backupAnswered
-    backup-bad h = rw (← e, h)
+    pub backup-bad : isHash (x .hash) ≡ false → backupTaken i v x ≡ unchanged i 6
+    unfolding backupTaken
+    backup-bad h = rw (h)
 
-    pub backup-this : {hash : List ℕ} → isHash (x .hash) ≡ true → hash ≡ hashAt v (x .hash) → backupAnswered i v ≡ backs i hash
-    unfolding backupAnswered
-    backup-this h k = rw (← e, h, k)
+    pub backup-this : {hash : List ℕ} → isHash (x .hash) ≡ true → hash ≡ hashAt v (x .hash) → backupTaken i v x ≡ backs i hash
+    unfolding backupTaken
+    backup-this h k = rw (h, k)
 
 -- a boot
 module _ (i : Images) where

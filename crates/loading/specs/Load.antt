@@ -6,6 +6,8 @@ use lib.Dec.{eqb}
 use Rattle.buffer.specs.Pick.{pick}
 use Rattle.buffer.specs.Same.{sameBytes}
 use Rattle.decode_image.specs.Read.{loadOf, hashOf}
+use Rattle.decode_image.specs.declared.ImageHash.{ImageHash}
+use Rattle.decode_image.specs.declared.Load.{Load}
 use Rattle.schedule.specs.declared.Point.{Point}
 use Rattle.schedule.specs.declared.Moment.{Moment}
 use Rattle.schedule.specs.declared.Moment.the-variants.{At, Absent}
@@ -58,17 +60,23 @@ unfoldable pub loadsAt : Images → List ℕ → Moment → Answered
 loadsAt i hash (At t) = pick (eqb (t .0) 0) (unchanged i 6) (loads i hash t)
 loadsAt i hash Absent = unchanged i 6
 
--- 68: 6 hash bad
+-- 68: 6 hash bad; by what was read of the request, and by its value
+unfoldable pub loadTaken : Images → List ℕ → Load → Answered
+loadTaken i v l = pick (isHash (l .hash)) (loadsAt i (hashAt v (l .hash)) (l .time)) (unchanged i 6)
+
 unfoldable pub loadAnswered : Images → List ℕ → Answered
-loadAnswered i v = pick (isHash (loadOf v .hash)) (loadsAt i (hashAt v (loadOf v .hash)) (loadOf v .time)) (unchanged i 6)
+loadAnswered i v = loadTaken i v (loadOf v)
 
 -- 69: the pending hash: cleared, 0; 9 the running one; else 3
 unfoldable pub cancels : Images → List ℕ → Answered
 cancels i hash =
     pick (isPending i hash) (unchanged (withPending i noPending) 0) (pick (sameBytes (i .running) hash) (unchanged i 9) (unchanged i 3))
 
+unfoldable pub cancelTaken : Images → List ℕ → ImageHash → Answered
+cancelTaken i v h = pick (isHash (h .hash)) (cancels i (hashAt v (h .hash))) (unchanged i 6)
+
 unfoldable pub cancelAnswered : Images → List ℕ → Answered
-cancelAnswered i v = pick (isHash (hashOf v .hash)) (cancels i (hashAt v (hashOf v .hash))) (unchanged i 6)
+cancelAnswered i v = cancelTaken i v (hashOf v)
 
 -- 70: 3 not open; 2; 8 a load is pending; backup becomes this hash, 0
 unfoldable pub backs : Images → List ℕ → Answered
@@ -77,8 +85,11 @@ backs i hash =
     (pick (i .pending .is) (unchanged i 8) (unchanged (withBackup i (record { given = true; bytes = hash })) 0))
     (unchanged i (openFault i hash))
 
+unfoldable pub backupTaken : Images → List ℕ → ImageHash → Answered
+backupTaken i v h = pick (isHash (h .hash)) (backs i (hashAt v (h .hash))) (unchanged i 6)
+
 unfoldable pub backupAnswered : Images → List ℕ → Answered
-backupAnswered i v = pick (isHash (hashOf v .hash)) (backs i (hashAt v (hashOf v .hash))) (unchanged i 6)
+backupAnswered i v = backupTaken i v (hashOf v)
 
 -- boot makes the pending hash, if any, running, and clears pending
 unfoldable pub booted : Images → Images

@@ -1,12 +1,14 @@
 // LoadRequest, CancelLoadRequest and SetBackupRequest, records 68 to 70: the first answer that applies; and a boot.
 use csmp::Hash;
+use decode_image::ImageHash;
+use decode_image::Load;
 use firmware::Answered;
 use schedule::Moment;
 use schedule::Point;
 use state::Images;
 use state::Pending;
 ghost use mathlib.Core.Path.{_≡_};
-ghost use Rattle.loading.specs.Load.{isBackup, isPending, openFault, sourceFault, pendingFault, loads, loadAnswered, cancels, cancelAnswered, backs, backupAnswered, booted};
+ghost use Rattle.loading.specs.Load.{isBackup, isPending, openFault, sourceFault, pendingFault, loads, loadTaken, cancels, cancelTaken, backs, backupTaken, booted};
 
 fn is_backup(images: Images, hash: [u8; 32]) -> bool
     ensures { λ r. ⌜ r ≡ isBackup images hash ⌝ }
@@ -81,11 +83,10 @@ fn load(images: Images, hash: [u8; 32], time: Point) -> Answered
     firmware::keep(next, firmware::OK)
 }
 
-// What a LoadRequest does: a bad hash, or no load time or 0, is invalid.
-pub fn answer_load(images: Images, v: &[u8]) -> Answered
-    ensures { λ r. ⌜ r ≡ loadAnswered images (now (v .entry)) ⌝ }
+// What a LoadRequest does, by what was read of it: a bad hash, or no load time or 0, is invalid.
+pub fn answer_load(images: Images, v: &[u8], l: Load) -> Answered
+    ensures { λ r. ⌜ r ≡ loadTaken images (now (v .entry)) l ⌝ }
 {
-    let l = decode_image::read_load(v);
     let given = l.hash;
     if !firmware::is_hash(given) {
         return firmware::keep(images, firmware::INVALID_REQ);
@@ -118,10 +119,9 @@ fn cancel(images: Images, hash: [u8; 32]) -> Answered
 }
 
 // What a CancelLoadRequest does.
-pub fn answer_cancel(images: Images, v: &[u8]) -> Answered
-    ensures { λ r. ⌜ r ≡ cancelAnswered images (now (v .entry)) ⌝ }
+pub fn answer_cancel(images: Images, v: &[u8], h: ImageHash) -> Answered
+    ensures { λ r. ⌜ r ≡ cancelTaken images (now (v .entry)) h ⌝ }
 {
-    let h = decode_image::read_hash(v);
     let given = h.hash;
     if !firmware::is_hash(given) {
         return firmware::keep(images, firmware::INVALID_REQ);
@@ -150,10 +150,9 @@ fn back_up(images: Images, hash: [u8; 32]) -> Answered
 }
 
 // What a SetBackupRequest does.
-pub fn answer_backup(images: Images, v: &[u8]) -> Answered
-    ensures { λ r. ⌜ r ≡ backupAnswered images (now (v .entry)) ⌝ }
+pub fn answer_backup(images: Images, v: &[u8], h: ImageHash) -> Answered
+    ensures { λ r. ⌜ r ≡ backupTaken images (now (v .entry)) h ⌝ }
 {
-    let h = decode_image::read_hash(v);
     let given = h.hash;
     if !firmware::is_hash(given) {
         return firmware::keep(images, firmware::INVALID_REQ);

@@ -42,17 +42,17 @@ module _ (l : Learnt) (m : Group) where
 
 -- what each record adds
 module _ (l : Learnt) (v : List ℕ) where
-  pub session-is : (m : Session) (k : Learnt) (a : Assigned) → m ≡ sessionOf v → k ≡ marked l (m .readable) → a ≡ withSession (l .assigned) v
+  pub session-is : (m : Session) (k : Learnt) (a : Assigned) → m ≡ sessionOf v → k ≡ marked l (m .reading .readable) → a ≡ withSession (l .assigned) v
       → withAssigned k a ≡ sessionNoted l v
   unfolding sessionNoted
   session-is m k a e f g = rw (f, g, e)
 
-  pub report-is : (m : Report) (k : Learnt) (a : Assigned) → m ≡ reportOf v → k ≡ marked l (m .readable) → a ≡ withReport (l .assigned) v
+  pub report-is : (m : Report) (k : Learnt) (a : Assigned) → m ≡ reportOf v → k ≡ marked l (m .reading .readable) → a ≡ withReport (l .assigned) v
       → withAssigned k a ≡ reportNoted l v
   unfolding reportNoted
   report-is m k a e f g = rw (f, g, e)
 
-  pub group-is : (m : Group) (g k : Learnt) → m ≡ groupOf v → g ≡ withGroup l m → k ≡ marked g (m .readable) → k ≡ groupNoted l v
+  pub group-is : (m : Group) (g k : Learnt) → m ≡ groupOf v → g ≡ withGroup l m → k ≡ marked g (m .reading .readable) → k ≡ groupNoted l v
   unfolding groupNoted
   group-is m g k e f h = rw (h, f, e)
 

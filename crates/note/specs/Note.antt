@@ -4,8 +4,7 @@ use mathlib.Core.List.{List}
 use mathlib.Core.Bool.{Bool, true, false, _&&_, _||_}
 use lib.Dec.{eqb, leb}
 use Rattle.buffer.specs.Pick.{pick}
-use Rattle.nesting.specs.Readable.{plain}
-use Rattle.decode.specs.Read.{redirectOf, sessionOf, groupOf, validityOf}
+use Rattle.decode.specs.Read.{redirectOf, sessionOf, groupOf, validityOf, signatureOf}
 use Rattle.decode_report.specs.Report.{reportOf}
 use Rattle.decode.specs.declared.Group.{Group}
 use Rattle.post.specs.Value.{isExpired}
@@ -65,7 +64,7 @@ withAssigned l a =
 unfoldable pub redirectNoted : Device → Learnt → List ℕ → Learnt
 redirectNoted d l v =
     record {
-      readable = l .readable && redirectOf v .readable;
+      readable = l .readable && redirectOf v .reading .readable;
       signed = l .signed;
       expired = l .expired;
       redirected = l .redirected || followed (urlIn v);
@@ -77,11 +76,11 @@ redirectNoted d l v =
 
 -- 7: of several sessions the last not ignored counts
 unfoldable pub sessionNoted : Learnt → List ℕ → Learnt
-sessionNoted l v = marked (withAssigned l (withSession (l .assigned) v)) (sessionOf v .readable)
+sessionNoted l v = marked (withAssigned l (withSession (l .assigned) v)) (sessionOf v .reading .readable)
 
 -- 13: of several reports the last counts
 unfoldable pub reportNoted : Learnt → List ℕ → Learnt
-reportNoted l v = marked (withAssigned l (withReport (l .assigned) v)) (reportOf v .readable)
+reportNoted l v = marked (withAssigned l (withReport (l .assigned) v)) (reportOf v .reading .readable)
 
 -- 55: one assignment more, and whether it would need a ninth group
 abbrev pub withRegrouped : Learnt → Regrouped → Learnt
@@ -111,13 +110,13 @@ unfoldable pub withGroup : Learnt → Group → Learnt
 withGroup l m = grouped l (m .kind) (m .id)
 
 unfoldable pub groupNoted : Learnt → List ℕ → Learnt
-groupNoted l v = marked (withGroup l (groupOf v)) (groupOf v .readable)
+groupNoted l v = marked (withGroup l (groupOf v)) (groupOf v .reading .readable)
 
 -- 76 and 77: for f and g
 unfoldable pub validityNoted : Learnt → List ℕ → Point → Learnt
 validityNoted l v time =
     record {
-      readable = l .readable && validityOf v .readable;
+      readable = l .readable && validityOf v .reading .readable;
       signed = l .signed;
       expired = l .expired || isExpired 76 v time;
       redirected = l .redirected;
@@ -130,7 +129,7 @@ validityNoted l v time =
 unfoldable pub signatureNoted : Learnt → List ℕ → Learnt
 signatureNoted l v =
     record {
-      readable = l .readable && plain v;
+      readable = l .readable && signatureOf v .readable;
       signed = true;
       expired = l .expired;
       redirected = l .redirected;

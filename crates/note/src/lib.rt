@@ -53,7 +53,7 @@ fn note_redirect(device: Device, learnt: Learnt, v: &[u8]) -> Learnt
     let old = learnt.registration;
     let registration = registration::redirect(device, old, v);
     let redirected = buffer::either(learnt.redirected, registration::is_followed(v));
-    let mut next = mark(learnt, decode::read_redirect(v).readable);
+    let mut next = mark(learnt, decode::read_redirect(v).reading.readable);
     next.registration = registration;
     next.redirected = redirected;
     next
@@ -64,7 +64,7 @@ fn note_session(learnt: Learnt, v: &[u8]) -> Learnt
 {
     let old = learnt.assigned;
     let assigned = assign::with_session(old, v);
-    let mut next = mark(learnt, decode::read_session(v).readable);
+    let mut next = mark(learnt, decode::read_session(v).reading.readable);
     next.assigned = assigned;
     next
 }
@@ -74,7 +74,7 @@ fn note_report(learnt: Learnt, v: &[u8]) -> Learnt
 {
     let old = learnt.assigned;
     let assigned = assign::with_report(old, v);
-    let mut next = mark(learnt, decode_report::read_report(v).readable);
+    let mut next = mark(learnt, decode_report::read_report(v).reading.readable);
     next.assigned = assigned;
     next
 }
@@ -118,14 +118,14 @@ fn note_group(learnt: Learnt, v: &[u8]) -> Learnt
     ensures { λ r. ⌜ r ≡ groupNoted learnt (now (v .entry)) ⌝ }
 {
     let m = decode::read_group(v);
-    mark(with_group(learnt, m), m.readable)
+    mark(with_group(learnt, m), m.reading.readable)
 }
 
 fn note_validity(learnt: Learnt, v: &[u8], time: Point) -> Learnt
     ensures { λ r. ⌜ r ≡ validityNoted learnt (now (v .entry)) time ⌝ }
 {
     let expired = buffer::either(learnt.expired, post::is_expired(76, v, time));
-    let mut next = mark(learnt, decode::read_validity(v).readable);
+    let mut next = mark(learnt, decode::read_validity(v).reading.readable);
     next.expired = expired;
     next
 }
@@ -133,7 +133,7 @@ fn note_validity(learnt: Learnt, v: &[u8], time: Point) -> Learnt
 fn note_signature(learnt: Learnt, v: &[u8]) -> Learnt
     ensures { λ r. ⌜ r ≡ signatureNoted learnt (now (v .entry)) ⌝ }
 {
-    let mut next = mark(learnt, decode::read_signature(v));
+    let mut next = mark(learnt, decode::read_signature(v).readable);
     next.signed = true;
     next
 }

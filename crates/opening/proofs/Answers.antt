@@ -5,16 +5,15 @@ use mathlib.Core.List.{List}
 use mathlib.Core.Bool.{true, false}
 use borrow.Author.Tests.{eq-eqb, ne-eqb}
 use lib.ListN.{take}
-use Rattle.decode_image.specs.Read.{transferOf}
 use Rattle.csmp.specs.declared.Image.{Image}
 use Rattle.decode_image.specs.declared.Transfer.{Transfer}
-use Rattle.find.specs.Find.{isText}
+use Rattle.csmp.specs.Values.{isText}
 use Rattle.protobuf.specs.declared.Number.the-variants.{Given, Absent as NoNumber}
 use Rattle.state.specs.declared.Device.{Device}
 use Rattle.state.specs.declared.Images.{Images}
 use Rattle.firmware.specs.Place.{isHash}
 use Rattle.firmware.specs.Answer.{unchanged, isOpen}
-use Rattle.opening.specs.Open.{sizedTexts, isGiven, numberOr0, isWhole, isOurs, faultOf, openedBy, replaced, opens, openIf, transferAnswered}
+use Rattle.opening.specs.Open.{sizedTexts, isGiven, numberOr0, isWhole, isOurs, faultOf, openedBy, replaced, opens, openIf, transferTaken}
 
 -- what must be there
 module _ (t : Transfer) (h : isHash (t .hash) ≡ true) where
@@ -66,17 +65,17 @@ module _ (i : Images) (m : Image) where
     opens-same k g = rw (h, eq-eqb (i .image .size) (m .size) k, eq-eqb (i .image .«block_size») (m .«block_size») g)
 
 -- a TransferRequest: whole, without a fault, then opened
-module _ (v : List ℕ) (t : Transfer) (e : t ≡ transferOf v) where
+module _ (v : List ℕ) (t : Transfer) where
   module _ (d : Device) (i : Images) where
-    pub transfer-bad : isWhole t ≡ false → transferAnswered d i v ≡ unchanged i 6
-    unfolding transferAnswered
-    transfer-bad h = rw (← e, h)
+    pub transfer-bad : isWhole t ≡ false → transferTaken d i v t ≡ unchanged i 6
+    unfolding transferTaken
+    transfer-bad h = rw (h)
 
     module _ {n m f : ℕ} (h : isWhole t ≡ true) (p : n ≡ numberOr0 (t .size)) (q : m ≡ numberOr0 (t .«block_size»)) (g : f ≡ faultOf d i v t n m) where
-      pub transfer-fault : (f ≡ 0 → ⊥) → transferAnswered d i v ≡ unchanged i f
-      unfolding transferAnswered openIf
-      transfer-fault k = rw (← e, h, ← p, ← q, ← g, ne-eqb f 0 k)
+      pub transfer-fault : (f ≡ 0 → ⊥) → transferTaken d i v t ≡ unchanged i f
+      unfolding transferTaken openIf
+      transfer-fault k = rw (h, ← p, ← q, ← g, ne-eqb f 0 k)
 
-      pub transfer-open : {image : Image} → f ≡ 0 → image ≡ openedBy v t n m → transferAnswered d i v ≡ opens i image
-      unfolding transferAnswered openIf
-      transfer-open k w = rw (← e, h, ← p, ← q, ← g, eq-eqb f 0 k, w)
+      pub transfer-open : {image : Image} → f ≡ 0 → image ≡ openedBy v t n m → transferTaken d i v t ≡ opens i image
+      unfolding transferTaken openIf
+      transfer-open k w = rw (h, ← p, ← q, ← g, eq-eqb f 0 k, w)

@@ -5,11 +5,10 @@ use mathlib.Core.Bool.{Bool, true, false, not, _&&_, _||_}
 use lib.ListN.{take, replicate}
 use lib.Dec.{eqb, ltb}
 use Rattle.buffer.specs.Pick.{pick}
-use Rattle.csmp.specs.Values.{atMost}
+use Rattle.csmp.specs.Values.{atMost, isText}
 use Rattle.decode_image.specs.Read.{transferOf}
 use Rattle.csmp.specs.declared.Image.{Image}
 use Rattle.decode_image.specs.declared.Transfer.{Transfer}
-use Rattle.find.specs.Find.{isText}
 use Rattle.protobuf.specs.declared.Number.{Number}
 use Rattle.protobuf.specs.declared.Number.the-variants.{Given, Absent}
 use Rattle.state.specs.declared.Device.{Device}
@@ -76,9 +75,12 @@ opens i image =
 unfoldable pub openIf : ℕ → Images → Image → Answered
 openIf fault i image = pick (eqb fault 0) (opens i image) (unchanged i fault)
 
-unfoldable pub transferAnswered : Device → Images → List ℕ → Answered
-transferAnswered d i v =
-    pick (isWhole (transferOf v))
-    (openIf (faultOf d i v (transferOf v) (numberOr0 (transferOf v .size)) (numberOr0 (transferOf v .«block_size»))) i
-    (openedBy v (transferOf v) (numberOr0 (transferOf v .size)) (numberOr0 (transferOf v .«block_size»))))
+-- a request by what was read of it, and by its value
+unfoldable pub transferTaken : Device → Images → List ℕ → Transfer → Answered
+transferTaken d i v t =
+    pick (isWhole t)
+    (openIf (faultOf d i v t (numberOr0 (t .size)) (numberOr0 (t .«block_size»))) i (openedBy v t (numberOr0 (t .size)) (numberOr0 (t .«block_size»))))
     (unchanged i 6)
+
+unfoldable pub transferAnswered : Device → Images → List ℕ → Answered
+transferAnswered d i v = transferTaken d i v (transferOf v)

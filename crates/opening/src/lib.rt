@@ -6,7 +6,7 @@ use protobuf::Number;
 use state::Device;
 use state::Images;
 ghost use mathlib.Core.Path.{_≡_};
-ghost use Rattle.opening.specs.Open.{sizedTexts, isWhole, isOurs, numberOr0, faultOf, openedBy, replaced, opens, transferAnswered};
+ghost use Rattle.opening.specs.Open.{sizedTexts, isWhole, isOurs, numberOr0, faultOf, openedBy, replaced, opens, transferTaken};
 
 // Whether every text is within its size.
 fn sized_texts(t: Transfer) -> bool
@@ -56,12 +56,12 @@ fn is_ours(device: Device, v: &[u8], t: Transfer) -> bool
 {
     let ours = device.hw_id.bytes;
     let hw_id = t.hw_id;
-    if !find::is_text(buffer::front(&ours, device.hw_id.len), v, hw_id, false) {
+    if !csmp::is_text(buffer::front(&ours, device.hw_id.len), v, hw_id, false) {
         return false;
     }
     let vendors = device.vendor_hw_id.bytes;
     let vendor = t.vendor_hw_id;
-    find::is_text(
+    csmp::is_text(
         buffer::front(&vendors, device.vendor_hw_id.len),
         v,
         vendor,
@@ -152,11 +152,10 @@ fn open_or_keep(images: Images, image: Image) -> Answered
     firmware::keep(images, firmware::OK)
 }
 
-// What a TransferRequest does.
-pub fn answer_transfer(device: Device, images: Images, v: &[u8]) -> Answered
-    ensures { λ r. ⌜ r ≡ transferAnswered device images (now (v .entry)) ⌝ }
+// What a TransferRequest does, by what was read of it.
+pub fn answer_transfer(device: Device, images: Images, v: &[u8], t: Transfer) -> Answered
+    ensures { λ r. ⌜ r ≡ transferTaken device images (now (v .entry)) t ⌝ }
 {
-    let t = decode_image::read_transfer(v);
     if !is_whole(t) {
         return firmware::keep(images, firmware::INVALID_REQ);
     }

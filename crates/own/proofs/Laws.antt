@@ -71,19 +71,19 @@ groups-next l n i h k a p =
     (appended-join (groupsTo l n i) (groupRecord (getD l i noPair .kind) (getD l i noPair .id)) a (appended-put p))
 
 -- at most how many bytes they take
-groups-length : (l : List Pair) → length (groupsShown l) ≤ 60 * length l
+groups-length : (l : List Pair) → length (groupsShown l) ≤ 25 * length l
 unfolding groupsShown
 groups-length [] = omega arith
 groups-length (p ∷ l) =
-    let h : length (groupsShown l) ≤ 60 * length l = groups-length l in
+    let h : length (groupsShown l) ≤ 25 * length l = groups-length l in
     omega (arith, length-append (groupRecord (p .kind) (p .id)) (groupsShown l), group-most (p .kind) (p .id))
 
-groups-most : (l : List Pair) (n : ℕ) → length l ≡ 8 → length (groupsShown (take n l)) ≤ 480
+groups-most : (l : List Pair) (n : ℕ) → length l ≡ 8 → length (groupsShown (take n l)) ≤ 200
 groups-most l n h = let g = groups-length (take n l) in omega (arith, length-take n l)
 
-report-shown-most : (a : Assigned) → length (a .ids .list) ≡ 32 → length (a .«heartbeat_ids» .list) ≡ 32 → length (reportShown a) ≤ 1980
+report-shown-most : (a : Assigned) → length (a .ids .list) ≡ 32 → length (a .«heartbeat_ids» .list) ≡ 32 → length (reportShown a) ≤ 793
 unfolding reportShown
-report-shown-most a h k = shown-most (a .reporting) _ 1980 (report-most (a .interval) (a .ids) (a .heartbeat) (a .«heartbeat_ids») h k)
+report-shown-most a h k = shown-most (a .reporting) _ 793 (report-most (a .interval) (a .ids) (a .heartbeat) (a .«heartbeat_ids») h k)
 
 -- the lengths of the arrays that are shown
 pub record AssignedSized (a : Assigned) : Type 0 where
@@ -91,7 +91,7 @@ pub record AssignedSized (a : Assigned) : Type 0 where
   pub «heartbeat_ids» : length (a .«heartbeat_ids» .list) ≡ 32
   pub groups : length (a .groups .list) ≡ 8
 
-own-most : (s : State) (time : Point) → AssignedSized (s .assigned) → ImagesSized (s .images) → length (ownRecords s time) ≤ 4096
+own-most : (s : State) (time : Point) → AssignedSized (s .assigned) → ImagesSized (s .images) → length (ownRecords s time) ≤ 1536
 unfolding ownRecords
 own-most s time a i =
     let r = reportShown (s .assigned) in
@@ -104,7 +104,7 @@ own-most s time a i =
     omega (arith, length-append r (timeRecord time ++ (g ++ m)), length-append (timeRecord time) (g ++ m), length-append g m)
 
 -- all of them, at the front
-pub own-all : (s : State) (time : Point) {out w x y left : List ℕ} {a b c n : ℕ} → length out ≡ 4096 → AssignedSized (s .assigned) → ImagesSized (s .images)
+pub own-all : (s : State) (time : Point) {out w x y left : List ℕ} {a b c n : ℕ} → length out ≡ 1536 → AssignedSized (s .assigned) → ImagesSized (s .images)
     → Appended out 0 (reportShown (s .assigned)) w a → Put w a (timeRecord time) x b
     → Appended x b (groupsShown (heldPairs (s .assigned .groups))) y c → Appended y c (imagesShown (s .images)) left n
     → (n ≤ length left) × (take n left ≡ ownRecords s time)

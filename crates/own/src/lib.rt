@@ -43,7 +43,7 @@ pub fn put_groups(groups: Groups, out: &mut [u8], at: usize) -> usize
 }
 
 // All of them, at the front of a buffer that has room.
-pub fn put_own(state: State, time: Point, out: &mut [u8; 4096]) -> usize
+pub fn put_own(state: State, time: Point, out: &mut [u8; 1536]) -> usize
     ensures { λ r. ⌜ (r ≤ length (now (out .exit))) × (take r (now (out .exit)) ≡ ownRecords state time) ⌝ }
 {
     let a = put_subscription(state.assigned, out, 0);

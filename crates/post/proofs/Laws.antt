@@ -1,15 +1,17 @@
 -- Laws of judging a payload, one step each.
-use Prim.Native.Nat.{ℕ, suc, _+_, _≤_, _<_}
+use Prim.Native.Nat.{ℕ, suc, _+_, _-_, _≤_, _<_}
 use mathlib.Core.Path.{_≡_, refl, _∙_}
 use mathlib.Core.List.{List, [], _∷_, map}
-use mathlib.Core.Bool.{Bool, true, false, _&&_}
+use mathlib.Core.Bool.{Bool, true, false, _&&_, _||_}
 use mathlib.Core.Logic.{inl, inr}
 use native.Mathlib.Omega.{arith}
 use borrow.Author.Tests.{eq-eqb, ne-eqb, le-leb, lt-leb}
 use types.Run.{OneOf}
 use lib.Dec.{leb}
-use lib.ListN.{length, drop, getD, drop-of-length-le}
+use lib.ListN.{length, take, drop, getD, drop-of-length-le}
 use Rattle.decode.specs.Read.{groupOf}
+use Rattle.decode_image.specs.Read.{blockOf}
+use Rattle.decode_image.specs.declared.Block.{Block}
 use Rattle.protobuf.specs.declared.Number.the-variants.{Given, Absent}
 use Rattle.schedule.specs.declared.Point.{Point}
 use Rattle.state.specs.Groups.{noPair, heldPairs}
@@ -20,8 +22,9 @@ use Rattle.tlv.specs.declared.Taken.the-variants.{Record as Whole, Unreadable}
 use Rattle.tlv.proofs.Laws.{records-end, records-more, records-unreadable}
 use Rattle.buffer.specs.Listed.{listed}
 use Rattle.buffer.proofs.Tests.{head}
-use Rattle.post.specs.Value.{isForbidden, anyPair, hasPair, matchOf, isMatch}
-use Rattle.post.specs.Judge.{noted, seenOf, nothingSeen, sealed, lookedAt}
+use Rattle.post.specs.Value.{isReadable, isExpired, isForbidden, anyPair, hasPair, matchOf, isMatch}
+use Rattle.post.specs.Judge.{noted, seenOf, nothingSeen, sealed, lookedAt, LookedBy}
+use Rattle.post.specs.declared.Looked.{Looked}
 use Rattle.post.specs.declared.Seen.{Seen}
 
 -- the types that may not be posted, as a match tests them: some alone, the others by their range
@@ -115,13 +118,13 @@ module _ (g : Groups) (t : Point) where
   lookedFrom p at seen = sealed (recordsFrom p at .whole) (seenOf g t seen (map (valued p) (recordsFrom p at .items)))
 
   module _ (p : List ℕ) where
-    pub looked-large : 1280 < length p → lookedAt g t p ≡ sealed false nothingSeen
+    pub large-seen : {seen : Seen} → seen ≡ nothingSeen → 1280 < length p → sealed false seen ≡ lookedAt g t p
     unfolding lookedAt
-    looked-large h = rw (lt-leb (length p) 1280 h)
+    large-seen e h = rw (e, lt-leb (length p) 1280 h)
 
-    pub looked-start : length p ≤ 1280 → lookedAt g t p ≡ lookedFrom p 0 nothingSeen
+    pub start-seen : {seen : Seen} → seen ≡ nothingSeen → length p ≤ 1280 → lookedAt g t p ≡ lookedFrom p 0 seen
     unfolding lookedAt lookedFrom records readable
-    looked-start h = rw (le-leb (length p) 1280 h)
+    start-seen e h = rw (e, le-leb (length p) 1280 h)
 
     module _ (at : ℕ) (seen : Seen) where
       pub looked-end : length p ≤ at → lookedFrom p at seen ≡ sealed true seen
@@ -135,3 +138,36 @@ module _ (g : Groups) (t : Point) where
       pub looked-next : (r : Record) (n : Seen) → recordAt p at ≡ Whole r → n ≡ noted g t seen (r .kind) (valued p r .value) → lookedFrom p at seen ≡ lookedFrom p (r .end) n
       unfolding lookedFrom seenOf
       looked-next r n e h = rw (records-more p at r e, h)
+
+      pub looked-block : (r : Record) (n : Seen) → recordAt p at ≡ Whole r → r .kind ≡ 67 → n ≡ noted g t seen 67 (valued p r .value) → lookedFrom p at seen ≡ lookedFrom p (r .end) n
+      looked-block r n e k h = looked-next r n e (rw k h)
+
+    -- what the walk leaves
+    pub looked-by : {seen : Seen} {from to : ℕ} {block : Block} {r : Looked} → r ≡ record { seen = seen; start = from; «end» = to; block = block }
+        → seen ≡ lookedAt g t p → block ≡ blockOf (take (to - from) (drop from p)) → LookedBy g t p r
+    looked-by e a b = rw e (record { seen = a; block = b })
+
+pub none-seen : {seen : Seen} → seen ≡ nothingSeen → seen .records ≤ 0
+none-seen e = rw e (omega arith)
+
+-- before the first ImageBlock: a value of no bytes
+pub block-start : (p : List ℕ) {block : Block} → block ≡ blockOf [] → block ≡ blockOf (take (0 - 0) (drop 0 p))
+block-start p e = e
+
+-- an ImageBlock says only whether it can be read
+or-false : (b : Bool) → (b || false) ≡ b
+or-false true = refl
+or-false false = refl
+
+pub noted-block : (g : Groups) (t : Point) (s : Seen) (v : List ℕ) (b : Block) → b ≡ blockOf v
+    → record {
+      records = s .records + 1;
+      readable = s .readable && b .reading .readable;
+      signed = s .signed;
+      expired = s .expired;
+      grouped = s .grouped;
+      matched = s .matched;
+      forbidden = s .forbidden;
+    } ≡ noted g t s 67 v
+unfolding noted isReadable isExpired isMatch isForbidden listed
+noted-block g t s v b e = rw (e, or-false (s .signed), or-false (s .expired), or-false (s .grouped), or-false (s .matched), or-false (s .forbidden))

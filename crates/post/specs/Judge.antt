@@ -1,14 +1,17 @@
 -- Steps e to i, document 01, "Requests, in this order".
-use Prim.Native.Nat.{ℕ, _+_}
+use Prim.Native.Nat.{ℕ, _+_, _-_}
+use mathlib.Core.Path.{_≡_}
 use mathlib.Core.List.{List, [], _∷_}
 use mathlib.Core.Bool.{Bool, true, false, not, _&&_, _||_}
-use lib.ListN.{length}
+use lib.ListN.{length, take, drop}
 use lib.Dec.{eqb, leb}
 use Rattle.buffer.specs.Pick.{pick}
+use Rattle.decode_image.specs.Read.{blockOf}
 use Rattle.schedule.specs.declared.Point.{Point}
 use Rattle.state.specs.declared.Groups.{Groups}
 use Rattle.tlv.specs.Record.{Tlv, records, readable}
 use Rattle.post.specs.Value.{isReadable, isExpired, isMatch, isForbidden}
+use Rattle.post.specs.declared.Looked.{Looked}
 use Rattle.post.specs.declared.Seen.{Seen}
 use Rattle.post.specs.declared.Judgement.{Judgement}
 use Rattle.post.specs.declared.Judgement.the-variants.{Error, Run}
@@ -50,6 +53,11 @@ sealed whole s =
 -- a payload lies in a datagram of at most 1,280 bytes
 unfoldable pub lookedAt : Groups → Point → List ℕ → Seen
 lookedAt g time p = pick (leb (length p) 1280) (sealed (readable p) (seenOf g time nothingSeen (records p))) (sealed false nothingSeen)
+
+-- what the walk leaves: what it saw, and what the ImageBlock says that it read last, by where its value stands
+pub record LookedBy (g : Groups) (time : Point) (p : List ℕ) (r : Looked) : Type 0 where
+  pub seen : r .seen ≡ lookedAt g time p
+  pub block : r .block ≡ blockOf (take (r .end - r .start) (drop (r .start) p))
 
 -- f. Verdict bad, or signatures required and not good; without record 77 the verdict counts as none
 unfoldable pub badlySigned : Bool → ℕ → Bool → Bool

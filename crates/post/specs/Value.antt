@@ -5,8 +5,7 @@ use mathlib.Core.Bool.{Bool, true, false, _&&_, _||_}
 use lib.Dec.{eqb, leb, ltb}
 use Rattle.buffer.specs.Listed.{listed}
 use Rattle.buffer.specs.Pick.{pick}
-use Rattle.nesting.specs.Readable.{plain}
-use Rattle.decode.specs.Read.{redirectOf, groupOf, validityOf}
+use Rattle.decode.specs.Read.{redirectOf, groupOf, validityOf, signatureOf}
 use Rattle.decode_image.specs.Read.{transferOf, blockOf, loadOf, hashOf}
 use Rattle.protobuf.specs.declared.Number.{Number}
 use Rattle.protobuf.specs.declared.Number.the-variants.{Given, Absent}
@@ -20,15 +19,15 @@ use Rattle.state.specs.declared.Pair.{Pair}
 -- e. a value of 6, 57, 65, 67 to 70, 76, 77 that can be read; a URL over its size can't
 unfoldable pub isReadable : ℕ → List ℕ → Bool
 isReadable k v =
-    pick (eqb k 6) (redirectOf v .readable)
-    (pick (eqb k 57) (groupOf v .readable)
-    (pick (eqb k 65) (transferOf v .readable)
-    (pick (eqb k 67) (blockOf v .readable)
-    (pick (eqb k 68) (loadOf v .readable)
-    (pick (eqb k 69) (hashOf v .readable)
-    (pick (eqb k 70) (hashOf v .readable)
-    (pick (eqb k 76) (validityOf v .readable)
-    (pick (eqb k 77) (plain v) true))))))))
+    pick (eqb k 6) (redirectOf v .reading .readable)
+    (pick (eqb k 57) (groupOf v .reading .readable)
+    (pick (eqb k 65) (transferOf v .reading .readable)
+    (pick (eqb k 67) (blockOf v .reading .readable)
+    (pick (eqb k 68) (loadOf v .reading .readable)
+    (pick (eqb k 69) (hashOf v .reading .readable)
+    (pick (eqb k 70) (hashOf v .reading .readable)
+    (pick (eqb k 76) (validityOf v .reading .readable)
+    (pick (eqb k 77) (signatureOf v .readable) true))))))))
 
 -- g. now outside the bounds of a record 76; an absent bound is open
 unfoldable pub isEarly : Moment → Point → Bool

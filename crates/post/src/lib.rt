@@ -1,13 +1,16 @@
 // Judging a posted payload: steps e to i, before any record runs.
 mod value;
 
+use decode_image::Block;
 use schedule::Point;
 use state::Groups;
 use tlv::Taken;
 pub use value::is_expired;
 ghost use mathlib.Core.Path.{_≡_};
-ghost use Prim.Native.Nat.{_≤_};
-ghost use Rattle.post.specs.Judge.{noted, sealed, lookedAt, badlySigned, judged};
+ghost use Prim.Native.Nat.{ℕ, _≤_};
+ghost use mathlib.Core.List.{List};
+ghost use Rattle.decode_image.specs.Read.{blockOf};
+ghost use Rattle.post.specs.Judge.{nothingSeen, noted, sealed, LookedBy, badlySigned, judged};
 
 // What a walk over a payload has seen: how many records, whether their values can be read, whether one is a
 // Signature, whether one's validity does not hold now, whether there are GroupMatches and one names a held group,
@@ -26,6 +29,40 @@ pub struct Seen {
 pub enum Judgement {
     Error(u8),
     Run,
+}
+
+// What a walk leaves: what it saw, and of the ImageBlock that it read last where its value stands and what it says, so that it need not be
+// read again where it is taken.
+pub struct Looked {
+    pub seen: Seen,
+    pub start: usize,
+    pub end: usize,
+    pub block: Block,
+}
+
+fn nothing() -> Seen
+    ensures { λ r. ⌜ r ≡ nothingSeen ⌝ }
+{
+    Seen {
+        records: 0,
+        readable: true,
+        signed: false,
+        expired: false,
+        grouped: false,
+        matched: false,
+        forbidden: false,
+    }
+}
+
+// One ImageBlock more.
+fn note_block(seen: Seen, block: Block) -> Seen
+    requires { ⌜ seen .records ≤ 1280 ⌝ }
+    ensures { λ r. ⌜ ((g : Groups) (t : Point) (v : List ℕ) → block ≡ blockOf v → r ≡ noted g t seen 67 v) ⌝ }
+{
+    let mut next = seen;
+    next.records = seen.records + 1;
+    next.readable = buffer::both(seen.readable, block.reading.readable);
+    next
 }
 
 // One record more.
@@ -59,33 +96,48 @@ fn seal(seen: Seen, whole: bool) -> Seen
     last
 }
 
-// What there is to see in a payload of at most 1,280 bytes; a longer one is not looked at.
-pub fn look(payload: &[u8], groups: Groups, time: Point) -> Seen
-    ensures { λ r. ⌜ r ≡ lookedAt groups time (now (payload .entry)) ⌝ }
+// The walk's end, with the ImageBlock that it read last.
+fn finish(seen: Seen, whole: bool, start: usize, end: usize, block: Block) -> Looked
+    ensures { λ r. ⌜ r ≡ record { seen = sealed whole seen; start = start; «end» = «end»; block = block } ⌝ }
 {
-    let mut seen = Seen {
-        records: 0,
-        readable: true,
-        signed: false,
-        expired: false,
-        grouped: false,
-        matched: false,
-        forbidden: false,
-    };
+    let seen = seal(seen, whole);
+    Looked {
+        seen,
+        start,
+        end,
+        block,
+    }
+}
+
+// What there is to see in a payload of at most 1,280 bytes; a longer one is not looked at.
+pub fn look(payload: &[u8], groups: Groups, time: Point) -> Looked
+    ensures { λ r. ⌜ LookedBy groups time (now (payload .entry)) r ⌝ }
+{
+    let mut seen = nothing();
+    let mut block = decode_image::no_block();
+    let mut from = 0;
+    let mut to = 0;
     if 1280 < payload.len() {
-        return seal(seen, false);
+        return finish(seen, false, from, to, block);
     }
     let mut at = 0;
     while at < payload.len() {
         let Taken::Record(r) = tlv::take_record(payload, at) else {
-            return seal(seen, false);
+            return finish(seen, false, from, to, block);
         };
         let start = r.start;
         let end = r.end;
-        seen = note(seen, r.kind, &payload[start..end], groups, time);
+        if r.kind == 67 {
+            block = decode_image::read_block(&payload[start..end]);
+            seen = note_block(seen, block);
+            from = start;
+            to = end;
+        } else {
+            seen = note(seen, r.kind, &payload[start..end], groups, time);
+        }
         at = end;
     }
-    seal(seen, true)
+    finish(seen, true, from, to, block)
 }
 
 // Step f: a bad verdict, or none good where signatures are required. Without a Signature the verdict counts as none.

@@ -19,15 +19,15 @@ pub fn is_readable(kind: u64, v: &[u8]) -> bool
     ensures { λ r. ⌜ r ≡ isReadable kind (now (v .entry)) ⌝ }
 {
     match kind {
-        6 => decode::read_redirect(v).readable,
-        57 => decode::read_group(v).readable,
-        65 => decode_image::read_transfer(v).readable,
-        67 => decode_image::read_block(v).readable,
-        68 => decode_image::read_load(v).readable,
-        69 => decode_image::read_hash(v).readable,
-        70 => decode_image::read_hash(v).readable,
-        76 => decode::read_validity(v).readable,
-        77 => decode::read_signature(v),
+        6 => decode::read_redirect(v).reading.readable,
+        57 => decode::read_group(v).reading.readable,
+        65 => decode_image::read_transfer(v).reading.readable,
+        67 => decode_image::read_block(v).reading.readable,
+        68 => decode_image::read_load(v).reading.readable,
+        69 => decode_image::read_hash(v).reading.readable,
+        70 => decode_image::read_hash(v).reading.readable,
+        76 => decode::read_validity(v).reading.readable,
+        77 => decode::read_signature(v).readable,
         _ => true,
     }
 }

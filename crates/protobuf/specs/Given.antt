@@ -5,9 +5,6 @@ use mathlib.Core.Bool.{Bool}
 use mathlib.Core.Option.{Option, none, some}
 use lib.ListN.{take, drop}
 use Rattle.buffer.specs.Pick.{pick}
-use Rattle.protobuf.specs.Field.{bytesOf}
-use Rattle.protobuf.specs.declared.Found.{Found}
-use Rattle.protobuf.specs.declared.Found.the-variants.{Field as The, Absent}
 use Rattle.protobuf.specs.declared.Number.{Number}
 use Rattle.protobuf.specs.declared.Number.the-variants.{Given, Absent as NoNumber}
 use Rattle.protobuf.specs.declared.Flag.{Flag}
@@ -18,7 +15,7 @@ use Rattle.protobuf.specs.declared.Bytes.the-variants.{At, Absent as NoB
 abbrev pub ifGiven : {A : Type 0} → Bool → A → Option A
 ifGiven b a = pick b (some a) none
 
--- what the finders answer
+-- what counts of a row, as a value that may be missing
 abbrev pub numberGiven : Number → Option ℕ
 numberGiven (Given v) = some v
 numberGiven NoNumber = none
@@ -30,7 +27,3 @@ flagGiven NoFlag = none
 abbrev pub bytesGiven : List ℕ → Bytes → Option (List ℕ)
 bytesGiven s (At start stop) = some (take (stop - start) (drop start s))
 bytesGiven s NoBytes = none
-
-abbrev pub foundBytes : List ℕ → Found → Option (List ℕ)
-foundBytes s (The f) = some (bytesOf s f)
-foundBytes s Absent = none

@@ -31,12 +31,6 @@ pub enum Step {
     Unreadable,
 }
 
-// The field that was looked for.
-pub enum Found {
-    Field(Field),
-    Absent,
-}
-
 // A number that may be missing: absent is not 0.
 pub enum Number {
     Given(u32),

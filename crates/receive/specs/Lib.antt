@@ -1,1 +1,1 @@
-pub mod Received
+pub mod Asked

@@ -10,9 +10,10 @@ use lib.Dec.{eqb}
 use lib.ListN.{length, take, drop, length-take, length-drop}
 use Rattle.decode.specs.Read.{redirectOf}
 use Rattle.decode.specs.declared.Redirect.{Redirect}
-use Rattle.find.specs.Find.{bytesIn}
+use Rattle.csmp.specs.Tables.{redirect}
+use Rattle.tables.specs.Found.{foundIn, bytesIn}
 use Rattle.protobuf.specs.declared.Bytes.the-variants.{At, Absent}
-use Rattle.find.proofs.FindLaws.{bytes-within}
+use Rattle.tables.proofs.TableLies.{lies, place-within}
 use Rattle.state.specs.Setup.{urlOf}
 use Rattle.state.specs.declared.Device.{Device}
 use Rattle.state.specs.declared.Registration.{Registration}
@@ -23,8 +24,9 @@ use Rattle.registration.specs.Redirect.{restarted, isSet, followed, foll
 pub url-inside : (v : List ℕ) (m : Redirect) (start stop : ℕ) → m ≡ redirectOf v → m .url ≡ At start stop → (start ≤ stop) × (stop ≤ length v)
 unfolding redirectOf
 url-inside v m start stop e h =
-    let k : bytesIn v 1 ≡ At start stop = rw e at h in
-    bytes-within v 1 start stop k
+    let c = foundIn redirect v .0 .0 in
+    let k : bytesIn c ≡ At start stop = rw e at h in
+    place-within v c (lies redirect v .0) start stop k
 
 module _ (d : Device) (r : Registration) (v : List ℕ) (m : Redirect) (e : m ≡ redirectOf v) where
   pub redirect-absent : m .url ≡ Absent → redirected d r v ≡ r

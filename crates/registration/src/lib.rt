@@ -58,7 +58,7 @@ pub fn is_followed(v: &[u8]) -> bool
     start != end
 }
 
-// What a NetworkRedirect does: registration starts again at its URL. One with no or an empty URL is ignored.
+// What a NMSRedirectRequest does: registration starts again at its URL. One with no or an empty URL is ignored.
 pub fn redirect(device: Device, registration: Registration, v: &[u8]) -> Registration
     ensures { λ r. ⌜ r ≡ redirected device registration (now (v .entry)) ⌝ }
 {

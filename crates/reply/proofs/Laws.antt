@@ -10,9 +10,9 @@ use lib.ListN.{length, length-append}
 use Rattle.buffer.specs.Put.{Put, Appended}
 use Rattle.buffer.proofs.Puts.{appended-put, appended-none, appended-join, appended-all}
 use Rattle.buffer.proofs.Tests.{pick-both}
-use Rattle.coap.specs.Write.{reset, replyHead}
+use Rattle.coap.specs.Write.{replyHead}
 use Rattle.state.specs.declared.State.{State}
-use Rattle.reply.specs.Reply.{replyOf, replyTo, resetTo, Sent}
+use Rattle.reply.specs.Reply.{replyOf, replyTo, Sent}
 use Rattle.reply.specs.declared.Answer.{Answer}
 
 -- the head alone, or the head and the payload behind it
@@ -47,14 +47,6 @@ module _ (kind : ℕ) {out : List ℕ} where
   unfolding replyTo
   reply-non code id body h = rw (ne-eqb kind 0 h) (appended-none out 0 (omega arith))
 
-  pub reset-con : (id : ℕ) {left : List ℕ} {n : ℕ} → kind ≡ 0 → Put out 0 (reset id) left n → Appended out 0 (resetTo kind id) left n
-  unfolding resetTo
-  reset-con id h p = rw h (appended-put p)
-
-  pub reset-non : (id : ℕ) → (kind ≡ 0 → ⊥) → Appended out 0 (resetTo kind id) out 0
-  unfolding resetTo
-  reset-non id h = rw (ne-eqb kind 0 h) (appended-none out 0 (omega arith))
-
 -- a reply of at most 1,273 bytes of payload has at most 1,280
 reply-of-short : (code id : ℕ) (body : List ℕ) → length body ≤ 1273 → length (replyOf code id body) ≤ 1280
 unfolding replyOf
@@ -65,10 +57,6 @@ pub reply-short : (kind code id : ℕ) (body : List ℕ) → length body ≤ 127
 unfolding replyTo
 reply-short kind code id body h =
     pick-both (λ (bs : List ℕ). length bs ≤ 1280) (eqb kind 0) (replyOf code id body) [] (λ e. reply-of-short code id body h) (λ e. omega arith)
-
-pub reset-short : (kind id : ℕ) → length (resetTo kind id) ≤ 1280
-unfolding resetTo
-reset-short kind id = pick-both (λ (bs : List ℕ). length bs ≤ 1280) (eqb kind 0) (reset id) [] (λ e. omega arith) (λ e. omega arith)
 
 -- what is put at the front of an output that has room is sent
 module _ {outcome : ℕ} {s : State} {out : List ℕ} {r : Answer} where

@@ -2,7 +2,7 @@
 use state::State;
 ghost use mathlib.Core.Path.{_≡_};
 ghost use Rattle.buffer.specs.Put.{Appended};
-ghost use Rattle.reply.specs.Reply.{replyOf, replyTo, resetTo};
+ghost use Rattle.reply.specs.Reply.{replyOf, replyTo};
 
 // What a call answers: document 01's outcome, the length of what was written to the output, and the state after it.
 pub struct Answer {
@@ -41,14 +41,4 @@ pub fn put_reply(out: &mut [u8], kind: u8, code: u8, id: u16, body: &[u8]) -> us
         return 0;
     }
     put_acknowledgement(out, code, id, body)
-}
-
-// A reset for a datagram of that type that has a format error; only a CON gets one.
-pub fn put_reset(out: &mut [u8], kind: u8, id: u16) -> usize
-    ensures { λ r. ⌜ Appended (now (out .entry)) 0 (resetTo kind id) (now (out .exit)) r ⌝ }
-{
-    if kind != 0 {
-        return 0;
-    }
-    coap::put_reset(out, 0, id)
 }

@@ -1,7 +1,7 @@
 -- What is proved of the writers, beyond the functions' contracts.
 use Prim.Native.Nat.{ℕ, _^_, _<_}
 use mathlib.Core.Path.{_≡_}
-use mathlib.Core.List.{List, [], _∷_, map}
+use mathlib.Core.List.{List, [], _∷_, _++_, map}
 use mathlib.Core.Bool.{true, false}
 use mathlib.Core.Option.{none, some}
 use lib.ListN.{length, take, replicate}
@@ -9,15 +9,18 @@ use Rattle.decimal.specs.Decimal.{decimal, idsAmong}
 use Rattle.decimal.specs.Ids.{held}
 use Rattle.decimal.specs.declared.Ids.{Ids}
 use Rattle.protobuf.specs.Each.{IfAny, Each}
-use Rattle.protobuf.specs.Given.{numberGiven, ifGiven}
+use Rattle.protobuf.specs.Given.{numberGiven, bytesGiven, ifGiven}
+use Rattle.tables.specs.Statements.{RoundTripped}
 use Rattle.tables.specs.Table.{Table, Values, readable, readBy, writeBy}
+use Rattle.decode.specs.Read.{sessionOf}
+use Rattle.decode_report.specs.Report.{reportOf}
 use Rattle.protobuf.specs.declared.Number.{Number}
 use Rattle.schedule.specs.declared.Interval.{Interval}
 use Rattle.schedule.specs.declared.Moment.{Moment}
-use Rattle.schedule.specs.declared.Moment.the-variants.{Absent as Never}
+use Rattle.schedule.specs.declared.Moment.the-variants.{At, Absent as Never}
 use Rattle.schedule.specs.declared.Point.{Point}
 use Rattle.tlv.specs.Record.{recordBytes, records, readable as wholly}
-use Rattle.csmp.specs.Tables.{tlvIndex, session, reportSubscribe, currentTime, group, response, loadResponse, imageInfo}
+use Rattle.csmp.specs.Tables.{tlvIndex, session, reportSubscribe, currentTime, group, response, loadResponse, imageInfo, everyTable}
 use Rattle.csmp.specs.Values.{momentNumber, intervalNumber}
 use Rattle.encode.specs.Write.{indexRecord, sessionRecord, reportRecord, timeRecord, groupRecord}
 use Rattle.encode_image.specs.Write.{responseRecord, runningRecord, openRecord, backupRecord}
@@ -31,12 +34,43 @@ pub record Sample : Type 0 where
   pub written : List ℕ
   pub bytes : List ℕ
 
--- document 01, "Sample values": session "ab"; GroupAssign 1, 300; record 72 without hash, answer 6
+-- a hash of 32 times 7
+abbrev seven : List ℕ
+seven = replicate 32 7
+
+-- document 01, "Sample values": session "ab"; GroupAssign 1, 300; record 72 without hash, answer 6. Behind them, numbered by document 000, the
+-- records that are only written: TlvIndex of 11 and 75; CurrentTime 5; a LoadResponse with hash and load time; FirmwareImageInfo of the running
+-- image, and of an open one "a", version "b", with block 0 held, that is pending
 abbrev pub samples : List Sample
 samples =
     record { written = sessionRecord (record { bytes = 97 ∷ 98 ∷ replicate 62 0; len = 2 }); bytes = 0x07 ∷ 0x04 ∷ 0x0A ∷ 0x02 ∷ 0x61 ∷ 0x62 ∷ [] }
     ∷ record { written = recordBytes 55 (writeBy group (some 1, (some 300, tt))); bytes = 0x37 ∷ 0x05 ∷ 0x08 ∷ 0x01 ∷ 0x10 ∷ 0xAC ∷ 0x02 ∷ [] }
     ∷ record { written = responseRecord 72 (record { given = false; bytes = replicate 32 0 }) 6 Never; bytes = 0x48 ∷ 0x02 ∷ 0x10 ∷ 0x06 ∷ [] }
+    ∷ record { written = indexRecord (record { list = 11 ∷ 75 ∷ replicate 66 0; count = 2 }); bytes = 0x01 ∷ 0x08 ∷ 0x0A ∷ 0x02 ∷ 0x31 ∷ 0x31 ∷ 0x0A ∷ 0x02 ∷ 0x37 ∷ 0x35 ∷ [] }
+    ∷ record { written = timeRecord (record { 0 = 5 }); bytes = 0x12 ∷ 0x02 ∷ 0x08 ∷ 0x05 ∷ [] }
+    ∷ record {
+      written = responseRecord 72 (record { given = true; bytes = seven }) 0 (At (record { 0 = 5 }));
+      bytes = 0x48 ∷ 0x26 ∷ 0x0A ∷ 0x20 ∷ (seven ++ (0x10 ∷ 0x00 ∷ 0x18 ∷ 0x05 ∷ []));
+    }
+    ∷ record { written = runningRecord seven; bytes = 0x4B ∷ 0x26 ∷ 0x08 ∷ 0x00 ∷ 0x12 ∷ 0x20 ∷ (seven ++ (0x48 ∷ 0x01 ∷ [])) }
+    ∷ record {
+      written =
+          openRecord
+          (record {
+            hash = seven;
+            name = record { given = true; bytes = 97 ∷ replicate 127 0; len = 1 };
+            version = record { given = true; bytes = 98 ∷ replicate 31 0; len = 1 };
+            size = 2;
+            «block_size» = 1;
+            bitmap = 128 ∷ replicate 127 0;
+            held = 1;
+          })
+          1 (At (record { 0 = 5 }));
+      bytes =
+          0x4B ∷ 0x33 ∷ 0x08 ∷ 0x01 ∷ 0x12 ∷ 0x20
+          ∷ (seven
+          ++ (0x1A ∷ 0x01 ∷ 0x61 ∷ 0x22 ∷ 0x01 ∷ 0x62 ∷ 0x28 ∷ 0x02 ∷ 0x30 ∷ 0x01 ∷ 0x3A ∷ 0x01 ∷ 0x80 ∷ 0x50 ∷ 0x05 ∷ []));
+    }
     ∷ []
 
 abbrev pub Samples : Type 0
@@ -103,3 +137,19 @@ pub record WrittenBack : Type 0 where
       → Back 75 imageInfo (some 2, (some hash, (none, (none, (none, (none, (none, (none, (none, (numberGiven (momentNumber t), (none, (none, tt)))))))))))) (backupRecord hash t)
   -- the ids of 1 and 13 are those among the texts
   pub ids : (ids : List ℕ) → Each (λ (id : ℕ). id < 2 ^ 32) ids → idsAmong (map decimal ids) ≡ ids
+
+-- so it is with every message that is read or written
+abbrev pub EveryMessage : Type 0
+EveryMessage = Each RoundTripped everyTable
+
+-- 7 and 13 are read by the code's own readers as they were written
+pub record OwnReaders : Type 0 where
+  pub sessionId : (s : SessionId) → length (s .bytes) ≡ 64
+      → let v = writeBy session (some (take (s .len) (s .bytes)), tt) in
+      (sessionRecord s ≡ recordBytes 7 v) × (sessionOf v .reading .readable ≡ true) × (bytesGiven v (sessionOf v .id) ≡ some (take (s .len) (s .bytes)))
+  pub report : (i : Interval) (ids : Ids) (h : Interval) (hids : Ids)
+      → Below (intervalNumber i) → length (ids .list) ≡ 32 → Each (λ (id : ℕ). id < 2 ^ 32) (held ids)
+      → Below (intervalNumber h) → length (hids .list) ≡ 32 → Each (λ (id : ℕ). id < 2 ^ 32) (held hids)
+      → let v = writeBy reportSubscribe (numberGiven (intervalNumber i), (map decimal (held ids), (numberGiven (intervalNumber h), (map decimal (held hids), tt)))) in
+      (reportRecord i ids h hids ≡ recordBytes 13 v) × (reportOf v .reading .readable ≡ true)
+      × (reportOf v .interval ≡ i) × (held (reportOf v .ids) ≡ held ids) × (reportOf v .heartbeat ≡ h) × (held (reportOf v .«heartbeat_ids») ≡ held hids)

@@ -17,16 +17,17 @@ use Rattle.decode_image.specs.declared.Transfer.{Transfer}
 use Rattle.encode_image.proofs.Sizes.{timeField, response-record-most}
 use Rattle.protobuf.proofs.SizeLaws.{word-most}
 use Rattle.firmware.specs.Answer.{isOpen}
-use Rattle.loading.specs.Load.{isBackup, isPending, openFault, sourceFault, pendingFault, loads, loadsAt, loadAnswered, cancels, cancelAnswered, backs, backupAnswered}
-use Rattle.opening.specs.Open.{isWhole, isOurs, faultOf, replaced, opens, openIf, transferAnswered}
+use Rattle.loading.specs.Load.{isBackup, isPending, openFault, sourceFault, pendingFault, loads, loadsAt, loadTaken, loadAnswered, cancels, cancelTaken, cancelAnswered, backs, backupTaken, backupAnswered}
+use Rattle.opening.specs.Open.{isWhole, isOurs, faultOf, replaced, opens, openIf, transferTaken, transferAnswered}
 use Rattle.firmware.specs.Place.{isHash, bytesAt, hashAt, echoed}
 use Rattle.firmware.specs.declared.Answered.{Answered}
-use Rattle.find.specs.Find.{numberOf, numberIn, lastIn, bytesIn}
+use Rattle.message.specs.Read.{numberOf}
+use Rattle.csmp.specs.Tables.{loadRequest}
+use Rattle.tables.specs.Found.{foundIn}
 use Rattle.protobuf.specs.Write.{ifAny}
 use Rattle.protobuf.specs.declared.Bytes.{Bytes}
 use Rattle.protobuf.specs.declared.Bytes.the-variants.{At as Lies, Absent as NoBytes}
-use Rattle.protobuf.specs.declared.Found.{Found}
-use Rattle.protobuf.specs.declared.Found.the-variants.{Field as The, Absent as NoField}
+use Rattle.protobuf.specs.declared.Number.the-variants.{Given, Absent}
 use Rattle.schedule.specs.declared.Moment.{Moment}
 use Rattle.schedule.specs.declared.Moment.the-variants.{At, Absent as Never}
 use Rattle.schedule.specs.declared.Point.{Point}
@@ -42,22 +43,19 @@ time-never : length (timeField Never) ≤ 6
 unfolding ifAny momentNumber
 time-never = omega arith
 
-time-most : (answer : ℕ) (v : List ℕ) → length (timeField (loadTime answer v)) ≤ 6
-unfolding loadTime loadOf numberIn numberOf momentOf momentNumber ifAny
-time-most answer v = go (eqb answer 0) (lastIn v 2 0)
+time-most : (answer : ℕ) (v : List ℕ) → length (timeField (loadTime answer (loadOf v))) ≤ 6
+unfolding loadTime loadOf numberOf momentOf momentNumber ifAny
+time-most answer v = let c = foundIn loadRequest v .1 .0 .0 in go (eqb answer 0) (eqb (c .count) 0) (c .first)
   where
-    go : (t : Bool) (f : Found) → length (timeField (pick t (momentOf (numberOf f)) Never)) ≤ 6
-    go true (The f) = word-most 3 (f .value % 2 ^ 32) (omega arith) (omega arith)
-    go true NoField = omega arith
-    go false f = omega arith
+    go : (t u : Bool) (n : ℕ) → length (timeField (pick t (momentOf (pick u Absent (Given (n % 2 ^ 32)))) Never)) ≤ 6
+    go true true n = omega arith
+    go true false n = word-most 3 (n % 2 ^ 32) (omega arith) (omega arith)
+    go false u n = omega arith
 
-hash-length : (v : List ℕ) (n : ℕ) → length (echoed v n .bytes) ≡ 32
+hash-length : (v : List ℕ) (place : Bytes) → length (echoed v place .bytes) ≡ 32
 unfolding echoed hashAt
-hash-length v n = go (bytesIn v n)
-  where
-    go : (b : Bytes) → length (hashAt v b) ≡ 32
-    go (Lies a e) = length-sets {A = ℕ} (replicate 32 0) 0 (bytesAt v a e)
-    go NoBytes = refl
+hash-length v (Lies a e) = length-sets {A = ℕ} (replicate 32 0) 0 (bytesAt v a e)
+hash-length v NoBytes = refl
 
 -- answers are small
 below : (t : Bool) {a b : ℕ} → a < 128 → b < 128 → pick t a b < 128
@@ -94,7 +92,7 @@ loads-at-below i hash (At t) = below-of (eqb (t .0) 0) _ _ (lit 6 refl) (loads-b
 loads-at-below i hash Never = lit 6 refl
 
 load-below : (i : Images) (v : List ℕ) → loadAnswered i v .answer < 128
-unfolding loadAnswered
+unfolding loadAnswered loadTaken
 load-below i v = below-of (isHash (loadOf v .hash)) _ _ (loads-at-below i (hashAt v (loadOf v .hash)) (loadOf v .time)) (lit 6 refl)
 
 cancels-below : (i : Images) (hash : List ℕ) → cancels i hash .answer < 128
@@ -102,7 +100,7 @@ unfolding cancels
 cancels-below i hash = below-of (isPending i hash) _ _ (lit 0 refl) (below-of (sameBytes (i .running) hash) _ _ (lit 9 refl) (lit 3 refl))
 
 cancel-below : (i : Images) (v : List ℕ) → cancelAnswered i v .answer < 128
-unfolding cancelAnswered
+unfolding cancelAnswered cancelTaken
 cancel-below i v = below-of (isHash (hashOf v .hash)) _ _ (cancels-below i (hashAt v (hashOf v .hash))) (lit 6 refl)
 
 backs-below : (i : Images) (hash : List ℕ) → backs i hash .answer < 128
@@ -110,7 +108,7 @@ unfolding backs
 backs-below i hash = below-of (eqb (openFault i hash) 0) _ _ (below-of (i .pending .is) _ _ (lit 8 refl) (lit 0 refl)) (open-below i hash)
 
 backup-below : (i : Images) (v : List ℕ) → backupAnswered i v .answer < 128
-unfolding backupAnswered
+unfolding backupAnswered backupTaken
 backup-below i v = below-of (isHash (hashOf v .hash)) _ _ (backs-below i (hashAt v (hashOf v .hash))) (lit 6 refl)
 
 fault-below : (d : Device) (i : Images) (v : List ℕ) (t : Transfer) (size each : ℕ) → faultOf d i v t size each < 128
@@ -133,7 +131,7 @@ unfolding openIf
 open-if-below fault i image h = below-of (eqb fault 0) _ _ (opens-below i image) h
 
 transfer-below : (d : Device) (i : Images) (v : List ℕ) → transferAnswered d i v .answer < 128
-unfolding transferAnswered
+unfolding transferAnswered transferTaken
 transfer-below d i v = below-of (isWhole (transferOf v)) _ _ (open-if-below _ i _ (fault-below d i v (transferOf v) _ _)) (lit 6 refl)
 
 -- so are responses
@@ -144,8 +142,8 @@ short false a b g h = h
 pub response-most : (d : Device) (w : World) (k : ℕ) (v : List ℕ) → length (response d w k v) ≤ 48
 unfolding response
 response-most d w k v =
-    short (eqb k 65) _ _ (response-record-most 71 _ _ _ (lit 71 refl) (hash-length v 2) (transfer-below d (w .images) v) time-never)
-    (short (eqb k 68) _ _ (response-record-most 72 _ _ _ (lit 72 refl) (hash-length v 1) (load-below (w .images) v) (time-most _ v))
-    (short (eqb k 69) _ _ (response-record-most 73 _ _ _ (lit 73 refl) (hash-length v 1) (cancel-below (w .images) v) time-never)
-    (short (eqb k 70) _ _ (response-record-most 74 _ _ _ (lit 74 refl) (hash-length v 1) (backup-below (w .images) v) time-never)
+    short (eqb k 65) _ _ (response-record-most 71 _ _ _ (lit 71 refl) (hash-length v (transferOf v .hash)) (transfer-below d (w .images) v) time-never)
+    (short (eqb k 68) _ _ (response-record-most 72 _ _ _ (lit 72 refl) (hash-length v (loadOf v .hash)) (load-below (w .images) v) (time-most _ v))
+    (short (eqb k 69) _ _ (response-record-most 73 _ _ _ (lit 73 refl) (hash-length v (hashOf v .hash)) (cancel-below (w .images) v) time-never)
+    (short (eqb k 70) _ _ (response-record-most 74 _ _ _ (lit 74 refl) (hash-length v (hashOf v .hash)) (backup-below (w .images) v) time-never)
     (omega arith))))

@@ -18,12 +18,14 @@ use Rattle.protobuf.specs.Each.{Each}
 use Rattle.schedule.specs.declared.Point.{Point}
 use Rattle.state.specs.declared.Device.{Device}
 use Rattle.state.specs.declared.Groups.{Groups}
+use Rattle.state.specs.declared.Images.{Images}
+use Rattle.step.specs.Step.{World}
 use Rattle.tlv.specs.Record.{Tlv, records, readable}
-use Rattle.run.specs.Post.{postedAs, judgedAt, posted, PostedBy}
-use Rattle.step.specs.Step.{World, worldOf}
-use Rattle.run.specs.Run.{RanBy}
-use Rattle.run.specs.declared.Posted.{Posted}
-use Rattle.answer.specs.declared.Ran.{Ran}
+use Rattle.run.specs.Post.{postedAs, judgedAt, posted, postedFrom, BegunBy}
+use Rattle.run.specs.Front.{FrontBy}
+use Rattle.run.specs.Run.{recordsAt, worldWith, ran, responses}
+use Rattle.run.specs.declared.front.Begun.{Begun}
+use Rattle.run.proofs.Walk.{at-end}
 
 -- what is seen of records
 module _ (g : Groups) (time : Point) where
@@ -78,25 +80,36 @@ module _ (g : Groups) (time : Point) (p : List ℕ) (verdict : ℕ) (required : 
   pub run-readable : Each (λ (t : Tlv). isReadable (t .kind) (t .value) ≡ true) (records p)
   run-readable = looked-seen g time p (judged-run (lookedAt g time p) verdict required h .0) .1
 
--- what a post leaves, by the judgement
-module _ (d : Device) (g : Groups) (p : List ℕ) (time : Point) (verdict : ℕ) where
-  pub judge-is : {seen : Seen} {r j : Judgement} → seen ≡ lookedAt g time p → r ≡ judged seen verdict (d .«signed_posts») → r ≡ j → judgedAt d g p time verdict ≡ j
-  unfolding judgedAt
-  judge-is e f k = ap (λ (s : Seen). judged s verdict (d .«signed_posts»)) (sym e) ∙ sym f ∙ k
+-- the records that are still to run lead to what all of them lead to
+from-run : (d : Device) (w : World) (p : List ℕ) (next : World) (at : ℕ) {code : ℕ} → code ≡ 65 → ran d w (records p) ≡ ran d next (recordsAt p at)
+    → responses d w (records p) ≡ responses d next (recordsAt p at) → postedAs d w p Run ≡ postedFrom d next p at code
+unfolding postedAs
+from-run d w p next at e a b = rw (e, a, b)
 
-  pub posted-few : judgedAt d g p time verdict ≡ Run → length (records p) ≤ 24
-  unfolding judgedAt
-  posted-few h = run-few g time p verdict (d .«signed_posts») h
+-- what a post begins with, by the judgement
+module _ (i : Images) (g : Groups) (signed : Bool) (flash p : List ℕ) (time : Point) (verdict : ℕ) {seen : Seen} (e : seen ≡ lookedAt g time p) where
+  pub begun-error : {code : ℕ} {j : Judgement} → j ≡ judged seen verdict signed → j ≡ Error code
+      → BegunBy i g signed flash p time verdict (record { code = code; at = length p; images = i }) flash
+  unfolding posted postedAs judgedAt ran responses
+  begun-error h k =
+      let f : judged (lookedAt g time p) verdict signed ≡ Error _ = ap (λ (s : Seen). judged s verdict signed) (sym e) ∙ sym h ∙ k in
+      let z : length p ≤ length p = omega arith in
+      let a = at-end p (length p) z in
+      record { post = λ d reg q. rw (q, f, a); few = rw a (omega arith); created = λ l. absurd (omega arith) }
 
-  pub posted-error : (first : Ran) (flash out : List ℕ) {code : ℕ} → judgedAt d g p time verdict ≡ Error code → first .end ≡ 0
-      → PostedBy (posted d g (worldOf first flash) p time verdict) out (record { code = code; ran = first }) flash out
-  unfolding posted postedAs
-  posted-error first flash out j h = rw j (record { code = refl; world = refl; bytes = refl; position = omega arith; inside = omega arith; small = omega arith })
-
-  pub posted-run : (w : World) (out : List ℕ) {next : Ran} {flash left : List ℕ} {r : Posted} → judgedAt d g p time verdict ≡ Run
-      → length out ≡ 1273 → RanBy d w (records p) out 0 next flash left → r ≡ record { code = 65; ran = next }
-      → PostedBy (posted d g w p time verdict) out r flash left
-  unfolding posted postedAs
-  posted-run w out j l x e =
-      let i = x .inside in
-      rw (j, e) (record { code = refl; world = x .world; bytes = x .bytes; position = omega (arith, x .position); inside = i; small = omega arith })
+  pub begun-run : {j : Judgement} {r : Begun} {left : List ℕ} → j ≡ judged seen verdict signed → j ≡ Run
+      → (r .code ≡ 65) × FrontBy i flash p (r .images) (r .at) left → BegunBy i g signed flash p time verdict r left
+  unfolding posted postedAs judgedAt
+  begun-run {r = r} {left = left} h k b =
+      let f : judged (lookedAt g time p) verdict signed ≡ Run = ap (λ (s : Seen). judged s verdict signed) (sym e) ∙ sym h ∙ k in
+      let n = run-few g time p verdict signed f in
+      let m = b .1 .fewer in
+      record {
+        post =
+            λ d reg q.
+            ap (λ (s : Bool). postedAs d (worldWith i reg flash) p (judged (lookedAt g time p) verdict s)) q
+            ∙ ap (postedAs d (worldWith i reg flash) p) f
+            ∙ from-run d (worldWith i reg flash) p (worldWith (r .images) reg left) (r .at) (b .0) (b .1 .world d reg) (b .1 .body d reg);
+        few = omega arith;
+        created = λ l. b .0;
+      }

@@ -1,3 +1,4 @@
 pub mod Bounds
 pub mod Walk
+pub mod Fronts
 pub mod Laws

@@ -1,2 +1,3 @@
 pub mod Run
+pub mod Front
 pub mod Post

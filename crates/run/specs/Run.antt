@@ -1,13 +1,22 @@
 -- Step j, document 01, "Requests, in this order": the records of a payload run in their order.
 use Prim.Native.Nat.{ℕ, _+_, _≤_}
 use mathlib.Core.Path.{_≡_}
-use mathlib.Core.List.{List, [], _∷_, _++_}
+use mathlib.Core.List.{List, [], _∷_, _++_, map}
 use lib.ListN.{length}
 use lib.Seq.{sets}
 use Rattle.state.specs.declared.Device.{Device}
-use Rattle.tlv.specs.Record.{Tlv}
+use Rattle.state.specs.declared.Images.{Images}
+use Rattle.state.specs.declared.Registration.{Registration}
+use Rattle.tlv.specs.Record.{Tlv, valued, recordsFrom}
 use Rattle.step.specs.Step.{World, worldOf, act, response}
 use Rattle.answer.specs.declared.Ran.{Ran}
+
+-- the records of a payload from a position on
+unfoldable pub recordsAt : List ℕ → ℕ → List Tlv
+recordsAt p at = map (valued p) (recordsFrom p at .items)
+
+abbrev pub worldWith : Images → Registration → List ℕ → World
+worldWith i reg flash = record { images = i; registration = reg; flash = flash }
 
 -- the records run in payload order
 unfoldable pub ran : Device → World → List Tlv → World

@@ -1,31 +1,60 @@
-// A posted payload: it is judged (steps e to i), and its records then run in their order (step j).
+// A posted payload: it is judged (steps e to i), and its records then run in their order (step j). Blocks at its front need little of the
+// state, so they run first and by themselves; the records from the first on that does more, if there is one, run on all that a record may change.
+mod front;
+
 use answer::Ran;
+pub use front::Begun;
 use post::Judgement;
 use schedule::Point;
 use state::Device;
-use state::State;
+use state::Groups;
+use state::Images;
+use state::Registration;
 use tlv::Taken;
-ghost use mathlib.Core.Path.{_≡_};
 ghost use Prim.Native.Nat.{_+_, _*_, _≤_};
 ghost use lib.ListN.{length};
-ghost use Rattle.tlv.specs.Record.{records};
 ghost use Rattle.step.specs.Step.{worldOf};
-ghost use Rattle.run.specs.Run.{RanBy};
-ghost use Rattle.run.specs.Post.{PostedBy, posted};
+ghost use Rattle.run.specs.Run.{recordsAt, worldWith, RanBy};
+ghost use Rattle.run.specs.Post.{BegunBy};
 
-// A post's answer: the code of its reply, and what it changed.
-pub struct Posted {
-    pub code: u8,
-    pub ran: Ran,
+// Steps e to i, and of step j the blocks at the payload's front: the code of the reply, where the records stand that are still to run, and the
+// images. On an error nothing changes.
+pub fn begin(
+    images: Images,
+    groups: Groups,
+    signed_posts: bool,
+    flash: &mut [u8],
+    payload: &[u8],
+    time: Point,
+    verdict: u8,
+) -> Begun
+    ensures { λ r. ⌜ BegunBy images groups «signed_posts» (now (flash .entry)) (now (payload .entry)) time verdict r (now (flash .exit)) ⌝ }
+{
+    let looked = post::look(payload, groups, time);
+    let seen = looked.seen;
+    match post::judge(seen, verdict, signed_posts) {
+        Judgement::Error(code) => Begun {
+            code,
+            at: payload.len(),
+            images,
+        },
+        Judgement::Run => front::take_front(images, flash, payload, looked),
+    }
 }
 
-// Runs the records of a payload one by one, and appends their responses.
-fn run(device: Device, first: Ran, flash: &mut [u8], payload: &[u8], out: &mut [u8]) -> Ran
-    requires { ⌜ first .end + 48 * length (records (now payload)) ≤ length (now out) ⌝ }
-    ensures { λ r. ⌜ RanBy device (worldOf first (now (flash .entry))) (records (now (payload .entry))) (now (out .entry)) (first .end) r (now (flash .exit)) (now (out .exit)) ⌝ }
+// Runs the records from `from` on one by one, and appends their responses.
+fn run(
+    device: Device,
+    first: Ran,
+    flash: &mut [u8],
+    payload: &[u8],
+    from: usize,
+    out: &mut [u8],
+) -> Ran
+    ensures { λ r. ⌜ (first .end + 48 * length (recordsAt (now (payload .entry)) from) ≤ length (now (out .entry)) → RanBy device (worldOf first (now (flash .entry))) (recordsAt (now (payload .entry)) from) (now (out .entry)) (first .end) r (now (flash .exit)) (now (out .exit))) ⌝ }
 {
     let mut ran = first;
-    let mut at = 0;
+    let mut at = from;
     while at < payload.len() {
         let Taken::Record(r) = tlv::take_record(payload, at) else {
             return ran;
@@ -38,38 +67,22 @@ fn run(device: Device, first: Ran, flash: &mut [u8], payload: &[u8], out: &mut [
     ran
 }
 
-// Steps e to j. The responses stand at the front of the output; on an error nothing changes.
-pub fn post(
-    state: State,
+// The records from `from` on, at most 24: their responses stand at the front of the output.
+pub fn rest(
+    device: Device,
+    images: Images,
+    registration: Registration,
     flash: &mut [u8],
     payload: &[u8],
-    time: Point,
-    verdict: u8,
+    from: usize,
     out: &mut [u8; 1273],
-) -> Posted
-    ensures { λ r. ⌜ PostedBy (posted (state .device) (state .assigned .groups) (record { images = state .images; registration = state .registration; flash = now (flash .entry) }) (now (payload .entry)) time verdict) (now (out .entry)) r (now (flash .exit)) (now (out .exit)) ⌝ }
+) -> Ran
+    ensures { λ r. ⌜ (length (recordsAt (now (payload .entry)) from) ≤ 24 → RanBy device (worldWith images registration (now (flash .entry))) (recordsAt (now (payload .entry)) from) (now (out .entry)) 0 r (now (flash .exit)) (now (out .exit))) ⌝ }
 {
-    let device = state.device;
-    let groups = state.assigned.groups;
-    let images = state.images;
-    let registration = state.registration;
     let first = Ran {
         images,
         registration,
         end: 0,
     };
-    let seen = post::look(payload, groups, time);
-    match post::judge(seen, verdict, device.signed_posts) {
-        Judgement::Error(code) => Posted { code, ran: first },
-        Judgement::Run => created(run(device, first, flash, payload, out)),
-    }
-}
-
-fn created(ran: Ran) -> Posted
-    ensures { λ r. ⌜ r ≡ record { code = 65; ran = ran } ⌝ }
-{
-    Posted {
-        code: coap::CREATED,
-        ran,
-    }
+    run(device, first, flash, payload, from, out)
 }

@@ -1,1 +1,2 @@
-pub mod Served
+pub mod Wanted
+pub mod Received

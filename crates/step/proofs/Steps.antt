@@ -1,9 +1,14 @@
 -- Laws of one record's run: what each arm of the code says of the definitions.
 use Prim.Native.Nat.{ℕ}
 use mathlib.Core.Path.{_≡_, refl}
-use mathlib.Core.List.{List, []}
+use mathlib.Core.List.{List, [], _∷_}
 use mathlib.Core.Bool.{true, false}
+use mathlib.Core.Logic.{inl, inr}
 use borrow.Author.Tests.{ne-eqb}
+use types.Run.{OneOf}
+use Rattle.buffer.specs.Listed.{listed}
+use Rattle.decode_image.specs.Read.{transferOf, blockOf, loadOf, hashOf}
+use Rattle.decode_image.specs.declared.Block.{Block}
 use Rattle.encode_image.specs.Write.{responseRecord}
 use Rattle.csmp.specs.declared.Hash.{Hash}
 use Rattle.csmp.specs.declared.Image.{Image}
@@ -15,8 +20,8 @@ use Rattle.registration.specs.Redirect.{redirected}
 use Rattle.schedule.specs.declared.Moment.{Moment}
 use Rattle.schedule.specs.declared.Moment.the-variants.{Absent as Never}
 use Rattle.state.specs.declared.Device.{Device}
-use Rattle.transfer.specs.Block.{Left, takeBlock}
-use Rattle.step.specs.Step.{World, withImages, withFlash, worldOf, blockTaken, act, response, Passed, Stepped}
+use Rattle.transfer.specs.Block.{Left, offered, takeOf, takeBlock}
+use Rattle.step.specs.Step.{World, withImages, withFlash, worldOf, blockTaken, act, response, needsMore, Passed, Stepped}
 use Rattle.answer.specs.Answer.{loadTime, Responded}
 use Rattle.answer.specs.declared.Ran.{Ran}
 
@@ -25,10 +30,27 @@ pub block-closed : (w : World) (v : List ℕ) → w .images .«open» ≡ false 
 unfolding blockTaken
 block-closed w v h = rw h
 
-pub block-open : (w : World) (v : List ℕ) {i : Image} {bs : List ℕ} → w .images .«open» ≡ true → Left (takeBlock (w .images .image) (w .flash) v) i bs
-    → withFlash w (record { image = i; bytes = bs }) ≡ blockTaken w v
-unfolding blockTaken
-block-open w v h l = rw (h, l .same-image, l .same-bytes)
+pub block-open : (w : World) (v : List ℕ) {b : Block} {i : Image} {bs : List ℕ} → w .images .«open» ≡ true → b ≡ blockOf v
+    → Left (takeOf (w .images .image) (w .flash) v b) i bs → withFlash w (record { image = i; bytes = bs }) ≡ blockTaken w v
+unfolding blockTaken takeBlock offered
+block-open w v h e l = rw (h, l .same-image, l .same-bytes, e)
+
+-- the records that do more, as a match tests them
+pub more-alone : (k : ℕ) → OneOf (6 ∷ 65 ∷ 68 ∷ 70 ∷ []) k → needsMore k ≡ true
+unfolding needsMore listed
+more-alone k (inl e) = rw e
+more-alone k (inr (inl e)) = rw e
+more-alone k (inr (inr (inl e))) = rw e
+more-alone k (inr (inr (inr e))) = rw e
+
+pub more-69 : (k : ℕ) → k ≡ 69 → needsMore k ≡ true
+unfolding needsMore listed
+more-69 k e = rw e
+
+pub more-other : (k : ℕ) → (OneOf (6 ∷ 65 ∷ 68 ∷ 70 ∷ []) k → ⊥) → (k ≡ 69 → ⊥) → needsMore k ≡ false
+unfolding needsMore listed
+more-other k h g =
+    rw (ne-eqb k 6 (λ q. h (inl q)), ne-eqb k 65 (λ q. h (inr (inl q))), ne-eqb k 68 (λ q. h (inr (inr (inl q)))), ne-eqb k 69 g, ne-eqb k 70 (λ q. h (inr (inr (inr q)))))
 
 -- an arm that answers, and one that does not
 module _ (d : Device) (k : ℕ) (v : List ℕ) (out : List ℕ) (r next : Ran) (flash : List ℕ) where
@@ -52,22 +74,22 @@ module _ (d : Device) (k : ℕ) (v : List ℕ) (out : List ℕ) (r next : Ran) (
   unfolding act response
   step-67 now m e f x = step-silent now m (rw e (f .0)) (rw e) (f .1) x
 
-  pub step-65 : {left : List ℕ} → k ≡ 65 → Responded r (transferAnswered d (r .images) v) 71 (echoed v 2) Never out next left
+  pub step-65 : {left : List ℕ} → k ≡ 65 → Responded r (transferAnswered d (r .images) v) 71 (echoed v (transferOf v .hash)) Never out next left
       → Stepped d (worldOf r flash) k v out (r .end) next flash left
   unfolding act response
   step-65 e x = step-answered _ _ _ _ (rw e) (rw e) x
 
-  pub step-68 : {left : List ℕ} → k ≡ 68 → Responded r (loadAnswered (r .images) v) 72 (echoed v 1) (loadTime (loadAnswered (r .images) v .answer) v) out next left
+  pub step-68 : {left : List ℕ} → k ≡ 68 → Responded r (loadAnswered (r .images) v) 72 (echoed v (loadOf v .hash)) (loadTime (loadAnswered (r .images) v .answer) (loadOf v)) out next left
       → Stepped d (worldOf r flash) k v out (r .end) next flash left
   unfolding act response
   step-68 e x = step-answered _ _ _ _ (rw e) (rw e) x
 
-  pub step-69 : {left : List ℕ} → k ≡ 69 → Responded r (cancelAnswered (r .images) v) 73 (echoed v 1) Never out next left
+  pub step-69 : {left : List ℕ} → k ≡ 69 → Responded r (cancelAnswered (r .images) v) 73 (echoed v (hashOf v .hash)) Never out next left
       → Stepped d (worldOf r flash) k v out (r .end) next flash left
   unfolding act response
   step-69 e x = step-answered _ _ _ _ (rw e) (rw e) x
 
-  pub step-70 : {left : List ℕ} → k ≡ 70 → Responded r (backupAnswered (r .images) v) 74 (echoed v 1) Never out next left
+  pub step-70 : {left : List ℕ} → k ≡ 70 → Responded r (backupAnswered (r .images) v) 74 (echoed v (hashOf v .hash)) Never out next left
       → Stepped d (worldOf r flash) k v out (r .end) next flash left
   unfolding act response
   step-70 e x = step-answered _ _ _ _ (rw e) (rw e) x

@@ -1,10 +1,13 @@
 -- Step j, document 01, "Requests, in this order" and "Transfer": what one record does, and the response that it gets.
 use Prim.Native.Nat.{ℕ}
 use mathlib.Core.Path.{_≡_}
-use mathlib.Core.List.{List, []}
+use mathlib.Core.List.{List, [], _∷_}
+use mathlib.Core.Bool.{Bool}
 use lib.Dec.{eqb}
+use Rattle.buffer.specs.Listed.{listed}
 use Rattle.buffer.specs.Pick.{pick}
 use Rattle.buffer.specs.Put.{Put}
+use Rattle.decode_image.specs.Read.{transferOf, loadOf, hashOf}
 use Rattle.encode_image.specs.Write.{responseRecord}
 use Rattle.loading.specs.Load.{loadAnswered, cancelAnswered, backupAnswered}
 use Rattle.opening.specs.Open.{transferAnswered}
@@ -60,13 +63,17 @@ act d w k v =
     (pick (eqb k 69) (withImages w (cancelAnswered (w .images) v .images))
     (pick (eqb k 70) (withImages w (backupAnswered (w .images) v .images)) w)))))
 
--- the response that it gets: 71 to 74 echo the request's hash, its field 2 in a 65 and its field 1 in the others
+-- the response that it gets: 71 to 74 echo the request's hash
 unfoldable pub response : Device → World → ℕ → List ℕ → List ℕ
 response d w k v =
-    pick (eqb k 65) (responseRecord 71 (echoed v 2) (transferAnswered d (w .images) v .answer) Never)
-    (pick (eqb k 68) (responseRecord 72 (echoed v 1) (loadAnswered (w .images) v .answer) (loadTime (loadAnswered (w .images) v .answer) v))
-    (pick (eqb k 69) (responseRecord 73 (echoed v 1) (cancelAnswered (w .images) v .answer) Never)
-    (pick (eqb k 70) (responseRecord 74 (echoed v 1) (backupAnswered (w .images) v .answer) Never) [])))
+    pick (eqb k 65) (responseRecord 71 (echoed v (transferOf v .hash)) (transferAnswered d (w .images) v .answer) Never)
+    (pick (eqb k 68) (responseRecord 72 (echoed v (loadOf v .hash)) (loadAnswered (w .images) v .answer) (loadTime (loadAnswered (w .images) v .answer) (loadOf v)))
+    (pick (eqb k 69) (responseRecord 73 (echoed v (hashOf v .hash)) (cancelAnswered (w .images) v .answer) Never)
+    (pick (eqb k 70) (responseRecord 74 (echoed v (hashOf v .hash)) (backupAnswered (w .images) v .answer) Never) [])))
+
+-- the records that do more than to put a block, or are answered
+unfoldable pub needsMore : ℕ → Bool
+needsMore k = listed k (6 ∷ 65 ∷ 68 ∷ 69 ∷ 70 ∷ [])
 
 -- the world that a value of the code's and an image buffer are
 abbrev pub worldOf : Ran → List ℕ → World

@@ -3,7 +3,18 @@ use answer::Ran;
 use state::Device;
 ghost use mathlib.Core.Path.{_≡_};
 ghost use Rattle.registration.specs.Redirect.{redirected};
-ghost use Rattle.step.specs.Step.{worldOf, blockTaken, Passed, Stepped};
+ghost use Rattle.step.specs.Step.{worldOf, blockTaken, needsMore, Passed, Stepped};
+
+// A record that does more than to put a block, or is answered: 6, 65, 68, 69, 70.
+pub fn needs_more(kind: u64) -> bool
+    ensures { λ r. ⌜ r ≡ needsMore kind ⌝ }
+{
+    match kind {
+        6 | 65 | 68 | 70 => true,
+        69 => true,
+        _ => false,
+    }
+}
 
 // A block goes to the open image, if there is one.
 fn run_block(ran: Ran, flash: &mut [u8], v: &[u8]) -> Ran
@@ -12,10 +23,24 @@ fn run_block(ran: Ran, flash: &mut [u8], v: &[u8]) -> Ran
     if !ran.images.open {
         return ran;
     }
-    let image = ran.images.image;
-    let taken = transfer::take_block(image, flash, v);
+    let mut image = ran.images.image;
+    let hash = image.hash;
+    let mut map = image.bitmap;
+    let block = decode_image::read_block(v);
+    let held = transfer::take_block(
+        &hash,
+        image.size,
+        image.block_size,
+        &mut map,
+        image.held,
+        flash,
+        v,
+        block,
+    );
+    image.bitmap = map;
+    image.held = held;
     let mut images = ran.images;
-    images.image = taken;
+    images.image = image;
     let mut next = ran;
     next.images = images;
     next

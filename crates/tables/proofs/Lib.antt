@@ -1,8 +1,9 @@
 pub mod TableFields
 pub mod TableContents
-pub mod TableShape
 pub mod TableValues
 pub mod TableReadable
-pub mod TableFind
+pub mod TableTells
+pub mod TableLies
+pub mod TableWalk
 pub mod TableSizes
 pub mod Theorems

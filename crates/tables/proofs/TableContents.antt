@@ -11,7 +11,7 @@ use Rattle.varint.proofs.Laws.{delimited-length}
 use Rattle.protobuf.specs.Field.{fields}
 use Rattle.protobuf.specs.Each.{Each}
 use Rattle.tables.specs.Statements.{SmallValue, Small, OrderedKind, Ordered}
-use Rattle.tables.specs.Table.{Kind, uint32, bool, bytes, strings, message, messages, Table, end, row, Value, Values, Content, contents, flagNumber, written, writeBy}
+use Rattle.tables.specs.Table.{Kind, uint32, bool, bytes, string, strings, message, messages, Table, end, row, Value, Values, Content, contents, flagNumber, written, writeBy}
 use Rattle.protobuf.specs.Write.{ifAny, each, bytesField}
 use Rattle.protobuf.proofs.EachLaws.{each-so, each-append, each-map}
 use Rattle.protobuf.proofs.FieldLaws.{fields-end}
@@ -45,6 +45,7 @@ unfoldable pub kindFields : (k : Kind) → ℕ → Value k → List Content
 kindFields uint32 n v = map (numberContent n) (listed v)
 kindFields bool n v = map (λ (b : Bool). numberContent n (flagNumber b)) (listed v)
 kindFields bytes n v = map (bytesContent n) (listed v)
+kindFields string n v = map (bytesContent n) (listed v)
 kindFields strings n v = map (bytesContent n) v
 kindFields (message T) n v = map (λ (m : Values T). bytesContent n (writeBy T m)) (listed v)
 kindFields (messages T) n v = map (λ (m : Values T). bytesContent n (writeBy T m)) v
@@ -62,6 +63,7 @@ unfolding kindFields
 kind-number uint32 n v = each-map (Of n) (numberContent n) (λ x. refl) (listed v)
 kind-number bool n v = each-map (Of n) (λ (b : Bool). numberContent n (flagNumber b)) (λ b. refl) (listed v)
 kind-number bytes n v = each-map (Of n) (bytesContent n) (λ bs. refl) (listed v)
+kind-number string n v = each-map (Of n) (bytesContent n) (λ bs. refl) (listed v)
 kind-number strings n v = each-map (Of n) (bytesContent n) (λ bs. refl) v
 kind-number (message T) n v = each-map (Of n) (λ (m : Values T). bytesContent n (writeBy T m)) (λ m. refl) (listed v)
 kind-number (messages T) n v = each-map (Of n) (λ (m : Values T). bytesContent n (writeBy T m)) (λ m. refl) v
@@ -86,6 +88,8 @@ spells-kind bool n (some true) h l s = spells-number n 1 h l (omega arith)
 spells-kind bool n (some false) h l s = spells-number n 0 h l (omega arith)
 spells-kind bytes n none h l s = spells-none
 spells-kind bytes n (some bs) h l s = spells-bytes n bs h l
+spells-kind string n none h l s = spells-none
+spells-kind string n (some bs) h l s = spells-bytes n bs h l
 spells-kind strings n v h l s = spells-each (bytesField n) (bytesContent n) v (λ bs. spells-bytes n bs h l)
 spells-kind (message T) n none h l s = spells-none
 spells-kind (message T) n (some m) h l s = spells-bytes n (writeBy T m) h l

@@ -9,7 +9,7 @@ use borrow.Author.Tests.{eq-eqb, ne-eqb}
 use lib.Dec.{eqb}
 use Rattle.buffer.specs.Pick.{pick}
 use Rattle.protobuf.specs.Each.{Each}
-use Rattle.tables.specs.Table.{Kind, uint32, bool, bytes, strings, message, messages, Table, end, row, Value, Values, Content, contents, alike, lastOne, merged, whereAny, asBytes, valueOf, valuesOf, writeBy}
+use Rattle.tables.specs.Table.{Kind, uint32, bool, bytes, string, strings, message, messages, Table, end, row, Value, Values, Content, contents, alike, lastOne, merged, whereAny, asBytes, valueOf, valuesOf, writeBy}
 use Rattle.tables.proofs.TableContents.{kindFields, fieldsIn, Of, Above, kind-number, table-numbers, FitRow, Fit, first-fits, rest-fits, held-fits, each-fits, written-whole}
 use Rattle.protobuf.proofs.EachLaws.{each-all, each-so, each-append}
 use Rattle.tables.proofs.TableFields.{bytesContent}
@@ -48,6 +48,7 @@ unfolding valueOf
 value-alike uint32 n l m h = rw (h 0)
 value-alike bool n l m h = rw (h 0)
 value-alike bytes n l m h = rw (h 2)
+value-alike string n l m h = rw (h 2)
 value-alike strings n l m h = rw (h 2)
 value-alike (message T) n l m h = rw (h 2)
 value-alike (messages T) n l m h = rw (h 2)
@@ -73,6 +74,8 @@ mutual
   value-back bool n (some false) w = rw (eq-eqb n n refl)
   value-back bytes n none w = refl
   value-back bytes n (some bs) w = rw (eq-eqb n n refl)
+  value-back string n none w = refl
+  value-back string n (some bs) w = rw (eq-eqb n n refl)
   value-back strings n v w = each-back n (λ (bs : List ℕ). bs) asBytes v (each-all _ (λ bs. refl) v)
   value-back (message T) n none w = refl
   value-back (message T) n (some m) w =

@@ -1,41 +1,46 @@
 -- What `specs/Statements.antt` states of messages.
-use mathlib.Core.Path.{_≡_, refl, ap}
-use mathlib.Core.List.{[]}
-use Rattle.protobuf.specs.Field.{fields}
-use Rattle.find.specs.Find.{lastIn, lastInParts, numberOf, numberIn, flagOf, flagIn, placeOf, bytesIn}
-use Rattle.tables.specs.Statements.{Writable, RoundTrip, Finders}
-use Rattle.protobuf.specs.Given.{numberGiven, flagGiven, bytesGiven}
-use Rattle.tables.specs.Table.{Table, Values, contents, asNumber, asFlag, asBytes, valueOf, readable, readBy, writeBy}
-use Rattle.protobuf.specs.declared.Found.{Found}
-use Rattle.protobuf.specs.declared.Found.the-variants.{Absent}
+use Prim.Native.Nat.{ℕ, _^_, _<_}
+use mathlib.Core.Path.{_≡_, ap, _∙_}
+use mathlib.Core.List.{List, []}
+use mathlib.Core.Bool.{Bool, true}
+use lib.ListN.{length}
+use Rattle.message.specs.Read.{Scan, scanned, readInto, Scanned}
+use Rattle.message.specs.declared.Reading.{Reading}
+use Rattle.tables.specs.Found.{rowsOf, noneFound, cellsOf, foundIn, readingOf}
+use Rattle.tables.specs.Statements.{Formed, Small, RoundTrip, OneReader}
+use Rattle.tables.specs.Table.{Table, Values, readable, readBy, writeBy}
 use Rattle.tables.proofs.TableContents.{Fit}
-use Rattle.protobuf.proofs.EachLaws.{each-all}
-use Rattle.tables.proofs.TableFind.{last-found, parts-found}
 use Rattle.tables.proofs.TableReadable.{message-readable, table-readable}
+use Rattle.tables.proofs.TableTells.{tells}
 use Rattle.tables.proofs.TableValues.{nested-back, values-back}
+use Rattle.tables.proofs.TableWalk.{walks}
 
-fit : {T : Table} {v : Values T} → Writable T v → Fit 0 T v
-fit w = record { ordered = w .ordered; small = w .small; short = w .short }
+module _ {T : Table} (f : Formed T) (v : Values T) (m : Small T v) (n : length (writeBy T v) < 2 ^ 64) where
+  fit : Fit 0 T v
+  fit = record { ordered = f .ordered; small = m; short = n }
 
-read-back : (T : Table) (v : Values T) → Writable T v → readBy T (writeBy T v) ≡ v
-unfolding readBy
-read-back T v w = nested-back T v (fit w) (values-back T 0 [] v (fit w) tt)
+  read-back : readBy T (writeBy T v) ≡ v
+  unfolding readBy
+  read-back = nested-back T v fit (values-back T 0 [] v fit tt)
+
+  read-whole : readable T (writeBy T v) ≡ true
+  unfolding readable
+  read-whole = message-readable 4 T v (f .shallow) fit (λ d l. table-readable T d 0 v l fit)
 
 pub round-trip : RoundTrip
-unfolding readable
-round-trip =
-    record {
-      whole = λ T v w. message-readable 4 T v (w .shallow) (fit w) (λ d l. table-readable T d 0 v l (fit w));
-      back = read-back;
-      unchanged = λ T v s w e. rw e (ap (writeBy T) (read-back T v w));
-    }
+round-trip T f = record { whole = read-whole f; back = read-back f; unchanged = λ v s m n e. rw e (ap (writeBy T) (read-back f v m n)) }
 
-pub finders : Finders
-unfolding numberIn numberOf flagIn flagOf bytesIn placeOf lastIn lastInParts valueOf contents
-finders =
-    record {
-      number = λ s n. last-found s n 0 (λ (r : Found). numberGiven (numberOf r)) asNumber (fields s .items) (each-all _ (λ f. refl) (fields s .items)) Absent;
-      flag = λ s n. last-found s n 0 (λ (r : Found). flagGiven (flagOf r)) asFlag (fields s .items) (each-all _ (λ f. refl) (fields s .items)) Absent;
-      octets = λ s n. last-found s n 2 (λ (r : Found). bytesGiven s (placeOf r)) asBytes (fields s .items) (each-all _ (λ f. refl) (fields s .items)) Absent;
-      nested = λ s part n. parts-found s part n (fields s .items) Absent;
-    }
+pub one-reader : OneReader
+one-reader = record { walks = λ T s f. walks T s (f .ordered) (f .shallow); tells = tells }
+
+-- a value read by the numbers of a table
+module _ (T : Table) (f : Formed T) (s : List ℕ) {table cells : List ℕ} (p : table ≡ rowsOf T) (q : cells ≡ cellsOf T (noneFound T))
+    {r : Reading} {left : List ℕ} (x : Scanned (readInto table cells s) r left) where
+  by-table : readInto table cells s ≡ scanned (readable T s) (cellsOf T (foundIn T s))
+  by-table = rw (p, q) (walks T s (f .ordered) (f .shallow))
+
+  pub told-by : r ≡ readingOf T s
+  told-by = ap (λ (t : Bool). record { readable = t }) (x .readable ∙ ap (λ (y : Scan). y .readable) by-table)
+
+  pub found-by : left ≡ cellsOf T (foundIn T s)
+  found-by = x .cells ∙ ap (λ (y : Scan). y .cells) by-table

@@ -1,13 +1,15 @@
 -- What is proved of messages, beyond the functions' contracts.
-use Prim.Native.Nat.{ℕ, suc, _^_, max, _≤_, _<_}
+use Prim.Native.Nat.{ℕ, suc, _^_, max, min, _≤_, _<_}
 use mathlib.Core.Path.{_≡_}
 use mathlib.Core.List.{List}
 use mathlib.Core.Bool.{true}
+use mathlib.Core.Option.{none, some}
 use lib.ListN.{length}
 use Rattle.protobuf.specs.Each.{IfAny, Each}
-use Rattle.find.specs.Find.{numberIn, flagIn, bytesIn, lastInParts}
-use Rattle.protobuf.specs.Given.{numberGiven, flagGiven, bytesGiven, foundBytes}
-use Rattle.tables.specs.Table.{Kind, uint32, bool, bytes, strings, message, messages, Table, end, row, Value, Values, alike, contents, merged, valueOf, readable, readBy, writeBy}
+use Rattle.protobuf.specs.Given.{numberGiven, flagGiven, bytesGiven}
+use Rattle.message.specs.Read.{readInto, scanned}
+use Rattle.tables.specs.Table.{Kind, uint32, bool, bytes, string, strings, message, messages, Table, end, row, Value, Values, readable, readBy, writeBy}
+use Rattle.tables.specs.Found.{rowsOf, Cell, Held, Found, noneFound, foundIn, cellsOf, numberIn, flagIn, bytesIn}
 
 -- field numbers ascend, are not 0, and leave room for the wire type below 2^32
 abbrev mutual
@@ -15,6 +17,7 @@ abbrev mutual
   OrderedKind uint32 = Unit {0}
   OrderedKind bool = Unit {0}
   OrderedKind bytes = Unit {0}
+  OrderedKind string = Unit {0}
   OrderedKind strings = Unit {0}
   OrderedKind (message T) = Ordered 0 T
   OrderedKind (messages T) = Ordered 0 T
@@ -29,6 +32,7 @@ abbrev mutual
   kindLevels uint32 = 0
   kindLevels bool = 0
   kindLevels bytes = 0
+  kindLevels string = 0
   kindLevels strings = 0
   kindLevels (message T) = levels T
   kindLevels (messages T) = levels T
@@ -43,6 +47,7 @@ abbrev mutual
   SmallValue uint32 v = IfAny (λ (x : ℕ). x < 2 ^ 32) v
   SmallValue bool v = Unit {0}
   SmallValue bytes v = Unit {0}
+  SmallValue string v = Unit {0}
   SmallValue strings v = Unit {0}
   SmallValue (message T) v = IfAny (λ (m : Values T). Small T m) v
   SmallValue (messages T) v = Each (λ (m : Values T). Small T m) v
@@ -51,22 +56,45 @@ abbrev mutual
   Small end v = Unit {0}
   Small (row n k T) v = SmallValue k (v .0) × Small T (v .1)
 
--- a table of document 000's kind, and values that fit it
-pub record Writable (T : Table) (v : Values T) : Type 0 where
+-- a table of document 000's kind
+pub record Formed (T : Table) : Type 0 where
   pub ordered : Ordered 0 T
   pub shallow : levels T ≤ 4
-  pub small : Small T v
-  pub short : length (writeBy T v) < 2 ^ 64
 
 -- values that are written read back as the same values, and bytes in the written form come out unchanged
-pub record RoundTrip : Type 0 where
-  pub whole : (T : Table) (v : Values T) → Writable T v → readable T (writeBy T v) ≡ true
-  pub back : (T : Table) (v : Values T) → Writable T v → readBy T (writeBy T v) ≡ v
-  pub unchanged : (T : Table) (v : Values T) (s : List ℕ) → Writable T v → s ≡ writeBy T v → writeBy T (readBy T s) ≡ s
+pub record RoundTripped (T : Table) : Type 0 where
+  pub whole : (v : Values T) → Small T v → length (writeBy T v) < 2 ^ 64 → readable T (writeBy T v) ≡ true
+  pub back : (v : Values T) → Small T v → length (writeBy T v) < 2 ^ 64 → readBy T (writeBy T v) ≡ v
+  pub unchanged : (v : Values T) (s : List ℕ) → Small T v → length (writeBy T v) < 2 ^ 64 → s ≡ writeBy T v → writeBy T (readBy T s) ≡ s
 
--- the functions that find a field agree with reading by a table
-pub record Finders : Type 0 where
-  pub number : (s : List ℕ) (n : ℕ) → numberGiven (numberIn s n) ≡ valueOf uint32 n (contents s)
-  pub flag : (s : List ℕ) (n : ℕ) → flagGiven (flagIn s n) ≡ valueOf bool n (contents s)
-  pub octets : (s : List ℕ) (n : ℕ) → bytesGiven s (bytesIn s n) ≡ valueOf bytes n (contents s)
-  pub nested : (s : List ℕ) (part n : ℕ) → foundBytes s (lastInParts s part n 2) ≡ valueOf bytes n (merged (alike part 2 (contents s)))
+abbrev pub RoundTrip : Type 0
+RoundTrip = (T : Table) → Formed T → RoundTripped T
+
+-- how many are counted
+abbrev pub counted : ℕ → ℕ
+counted n = min n 4294967295
+
+-- what is found of a row tells its value: a number, a flag, bytes; of a list how many entries it has; of a message whether a part of it is there
+-- and what its rows tell
+
+abbrev mutual
+  pub Tells : List ℕ → (k : Kind) → Cell × Held k → Value k → Type 0
+  Tells s uint32 c v = numberGiven (numberIn (c .0)) ≡ v
+  Tells s bool c v = flagGiven (flagIn (c .0)) ≡ v
+  Tells s bytes c v = bytesGiven s (bytesIn (c .0)) ≡ v
+  Tells s string c v = bytesGiven s (bytesIn (c .0)) ≡ v
+  Tells s strings c v = c .0 .count ≡ counted (length v)
+  Tells s (message T) c none = (c .0 .count ≡ 0) × (c .1 ≡ noneFound T)
+  Tells s (message T) c (some m) = (0 < c .0 .count) × TellsAll s T (c .1) m
+  Tells s (messages T) c v = c .0 .count ≡ counted (length v)
+
+  pub TellsAll : List ℕ → (T : Table) → Found T → Values T → Type 0
+  TellsAll s end g v = Unit {0}
+  TellsAll s (row n k T) g v = Tells s k (g .0) (v .0) × TellsAll s T (g .1) (v .1)
+
+-- one reader for every table: the walk by the table's numbers says whether a value can be read by the table, and what it finds tells the
+-- values that the table reads; of what repeats it tells how many there are
+pub record OneReader : Type 0 where
+  pub walks : (T : Table) (s : List ℕ) → Formed T
+      → readInto (rowsOf T) (cellsOf T (noneFound T)) s ≡ scanned (readable T s) (cellsOf T (foundIn T s))
+  pub tells : (T : Table) (s : List ℕ) → TellsAll s T (foundIn T s) (readBy T s)

@@ -1,13 +1,11 @@
 -- Messages by tables: one definition reads by a table of the known fields, one writes by it (document 01, "Records and fields").
-use Prim.Native.Nat.{ℕ, _%_, _^_}
+use Prim.Native.Nat.{ℕ, zero, suc, _%_, _^_}
 use mathlib.Core.List.{List, [], _∷_, _++_, map}
-use mathlib.Core.Bool.{Bool, true, false, not}
+use mathlib.Core.Bool.{Bool, true, false, not, _&&_}
 use mathlib.Core.Option.{Option, none, some}
-use lib.ListN.{length}
 use lib.Dec.{eqb}
 use Rattle.buffer.specs.Pick.{pick}
 use Rattle.protobuf.specs.Field.{fields, bytesOf}
-use Rattle.nesting.specs.Readable.{messageReadable}
 use Rattle.protobuf.specs.Write.{numberField, bytesField, ifAny, each}
 use Rattle.protobuf.specs.declared.Field.{Field}
 
@@ -17,6 +15,7 @@ mutual
     uint32 : Kind
     bool : Kind
     bytes : Kind
+    string : Kind
     strings : Kind
     message : Table → Kind
     messages : Table → Kind
@@ -31,6 +30,7 @@ abbrev mutual
   Value uint32 = Option ℕ
   Value bool = Option Bool
   Value bytes = Option (List ℕ)
+  Value string = Option (List ℕ)
   Value strings = List (List ℕ)
   Value (message T) = Option (Values T)
   Value (messages T) = List (Values T)
@@ -87,6 +87,7 @@ unfoldable mutual
   valueOf uint32 n fs = lastOne asNumber none (alike n 0 fs)
   valueOf bool n fs = lastOne asFlag none (alike n 0 fs)
   valueOf bytes n fs = lastOne asBytes none (alike n 2 fs)
+  valueOf string n fs = lastOne asBytes none (alike n 2 fs)
   valueOf strings n fs = map asBytes (alike n 2 fs)
   valueOf (message T) n fs = whereAny (λ (l : List Content). valuesOf T l) (alike n 2 fs)
   valueOf (messages T) n fs = map (λ (f : Content). valuesOf T (contents (f .bytes))) (alike n 2 fs)
@@ -95,26 +96,37 @@ unfoldable mutual
   valuesOf end fs = tt
   valuesOf (row n k T) fs = (valueOf k n fs, valuesOf T fs)
 
--- the shape of a table: which of its fields hold messages
-unfoldable mutual
-  pub kindShape : Kind → ℕ → List ℕ
-  kindShape uint32 n = []
-  kindShape bool n = []
-  kindShape bytes n = []
-  kindShape strings n = []
-  kindShape (message T) n = n ∷ length (shapeOf T) ∷ shapeOf T
-  kindShape (messages T) n = n ∷ length (shapeOf T) ∷ shapeOf T
-
-  pub shapeOf : Table → List ℕ
-  shapeOf end = []
-  shapeOf (row n k T) = kindShape k n ++ shapeOf T
-
--- READING: whether a message can be read by a table, and its values
-unfoldable pub readable : Table → List ℕ → Bool
-readable T s = messageReadable 4 (shapeOf T) s
-
+-- READING: the values of a message
 unfoldable pub readBy : (T : Table) → List ℕ → Values T
 readBy T s = valuesOf T (contents s)
+
+-- and whether it can be read: its fields to the end, and so the messages that they hold
+module _ (read : Table → List ℕ → Bool) where
+  -- a field with another wire type, or whose row holds no message, is not read further
+  unfoldable pub heldReadable : Kind → Content → Bool
+  heldReadable uint32 f = true
+  heldReadable bool f = true
+  heldReadable bytes f = true
+  heldReadable string f = true
+  heldReadable strings f = true
+  heldReadable (message T) f = pick (eqb (f .wire) 2) (read T (f .bytes)) true
+  heldReadable (messages T) f = pick (eqb (f .wire) 2) (read T (f .bytes)) true
+
+  unfoldable pub fieldReadable : Table → Content → Bool
+  fieldReadable end f = true
+  fieldReadable (row n k T) f = pick (eqb (f .number) n) (heldReadable k f) (fieldReadable T f)
+
+  unfoldable pub allReadable : Table → List Content → Bool
+  allReadable T [] = true
+  allReadable T (f ∷ fs) = fieldReadable T f && allReadable T fs
+
+-- a message of at most so many levels, itself the first; nesting stops at 4
+unfoldable pub readableTo : ℕ → Table → List ℕ → Bool
+readableTo zero T s = false
+readableTo (suc d) T s = fields s .whole && allReadable (readableTo d) T (contents s)
+
+unfoldable pub readable : Table → List ℕ → Bool
+readable T s = readableTo 4 T s
 
 -- WRITING: fields ascending, shortest varints, present fields only, zeros included
 abbrev pub flagNumber : Bool → ℕ
@@ -126,6 +138,7 @@ unfoldable mutual
   written uint32 n v = ifAny (numberField n) v
   written bool n v = ifAny (λ (b : Bool). numberField n (flagNumber b)) v
   written bytes n v = ifAny (bytesField n) v
+  written string n v = ifAny (bytesField n) v
   written strings n v = each (bytesField n) v
   written (message T) n v = ifAny (λ (m : Values T). bytesField n (writeBy T m)) v
   written (messages T) n v = each (λ (m : Values T). bytesField n (writeBy T m)) v

@@ -1,34 +1,29 @@
 -- Laws of one bit of a byte, by halving.
-use Prim.Native.Nat.{ℕ, zero, suc, _+_, _*_, _-_, _/_, _%_, _^_, _<_, _≤_}
+use Prim.Native.Nat.{ℕ, zero, suc, _+_, _*_, _/_, _%_, _^_, _<_}
 use mathlib.Core.Path.{_≡_, refl, ap}
 use mathlib.Core.Bool.{true, false}
-use native.Mathlib.Nat.{pow-suc}
-use native.Mathlib.Numerals.{sub-one}
+use native.Mathlib.Nat.{pow-zero, pow-suc, pow-succ', div-one, div-div-eq-div-mul}
 use native.Mathlib.Omega.{arith}
-use borrow.Author.Tests.{eq-eqb}
+use borrow.Author.Tests.{eq-eqb, eqb-true, eqb-false}
 use lib.Dec.{eqb}
 use Rattle.transfer.specs.Bitmap.{bit, raised}
 
--- the steps of the code: a bit is the low one, or one of the half
-pub bit-low : (j b : ℕ) → j ≤ 0 → bit j b ≡ eqb (b % 2) 1
+-- a bit by its weight
+pub bit-weight : (j b : ℕ) → bit j b ≡ eqb (b / 2 ^ j % 2) 1
 unfolding bit
-bit-low zero b h = refl
-bit-low (suc j) b h = absurd (omega arith)
+bit-weight zero b = rw (pow-zero 2, div-one b)
+bit-weight (suc j) b = rw (pow-succ' 2 j, ← div-div-eq-div-mul b 2 (2 ^ j)) (bit-weight j (b / 2))
 
-pub bit-half : (j b : ℕ) → 0 < j → bit j b ≡ bit (j - 1) (b / 2)
-unfolding bit
-bit-half zero b h = absurd (omega arith)
-bit-half (suc j) b h = rw sub-one
+-- a bit that is set stays, and another adds its weight
+pub raised-set : (j b : ℕ) → bit j b ≡ true → raised j b ≡ b
+unfolding bit raised
+raised-set zero b h = let e = eqb-true (b % 2) 1 h in omega arith
+raised-set (suc j) b h = let r = raised-set j (b / 2) h in omega arith
 
-pub raised-low : (j b : ℕ) → j ≡ 0 → raised j b ≡ b / 2 * 2 + 1
-unfolding raised
-raised-low zero b h = refl
-raised-low (suc j) b h = absurd (omega arith)
-
-pub raised-half : (j b : ℕ) → (j ≡ 0 → ⊥) → raised j b ≡ raised (j - 1) (b / 2) * 2 + b % 2
-unfolding raised
-raised-half zero b h = absurd (h refl)
-raised-half (suc j) b h = rw sub-one
+pub raised-weight : (j b : ℕ) → bit j b ≡ false → raised j b ≡ b + 2 ^ j
+unfolding bit raised
+raised-weight zero b h = let e = eqb-false (b % 2) 1 h in omega arith
+raised-weight (suc j) b h = let e = pow-suc 2 j in let r = raised-weight j (b / 2) h in omega arith
 
 -- a number of k bits stays one
 pub raised-small : (k j b : ℕ) → j < k → b < 2 ^ k → raised j b < 2 ^ k

@@ -9,26 +9,22 @@ use lib.ListN.{length, take, drop}
 use lib.Seq.{sets}
 use Rattle.buffer.proofs.Tests.{both}
 use Rattle.buffer.specs.Pick.{pick}
-use Rattle.decode_image.specs.Read.{blockOf}
 use Rattle.decode_image.specs.declared.Block.{Block}
 use Rattle.csmp.specs.declared.Image.{Image}
-use Rattle.find.specs.Find.{isText}
+use Rattle.csmp.specs.Values.{isText}
 use Rattle.protobuf.specs.declared.Bytes.the-variants.{At, Absent}
 use Rattle.protobuf.specs.declared.Number.the-variants.{Given, Absent as NoNumber}
-use Rattle.find.proofs.FindLaws.{bytes-within}
 use Rattle.transfer.specs.Bitmap.{held, marked, oneMore, withHeld}
-use Rattle.transfer.specs.Block.{fitsAt, Flash, putBlock, offered, takeBlock, Left}
+use Rattle.transfer.specs.Block.{fitsIn, fitsAt, Flash, putBlock, takeOf, Parts, Left}
 use Rattle.transfer.specs.Blocks.{blocks, blockLength}
 
 -- a number beyond the blocks does not fit, and another fits by its length
-module _ (i : Image) (n len : ℕ) where
-  pub fits-beyond : blocks (i .size) (i .«block_size») ≤ n → fitsAt i n len ≡ false
-  unfolding fitsAt
-  fits-beyond h = rw (le-ltb n (blocks (i .size) (i .«block_size»)) h)
+module _ (size each n len : ℕ) where
+  pub fits-beyond : blocks size each ≤ n → fitsIn size each n len ≡ false
+  fits-beyond h = rw (le-ltb n (blocks size each) h)
 
-  pub fits-length : n < blocks (i .size) (i .«block_size») → fitsAt i n len ≡ eqb len (blockLength (i .size) (i .«block_size») n)
-  unfolding fitsAt
-  fits-length h = rw (lt-ltb n (blocks (i .size) (i .«block_size»)) h)
+  pub fits-length : n < blocks size each → fitsIn size each n len ≡ eqb len (blockLength size each n)
+  fits-length h = rw (lt-ltb n (blocks size each) h)
 
 -- what fitting says
 pub fits-told : (i : Image) (n len : ℕ) → fitsAt i n len ≡ true
@@ -39,7 +35,7 @@ fits-told i n len h =
     (ltb-true n (blocks (i .size) (i .«block_size»)) (t .0), eqb-true len (blockLength (i .size) (i .«block_size») n) (t .1))
 
 -- what is left is what a definition says
-pub left-by : {f : Flash} {i : Image} {bs : List ℕ} → f ≡ record { image = i; bytes = bs } → Left f i bs
+left-by : {f : Flash} {i : Image} {bs : List ℕ} → f ≡ record { image = i; bytes = bs } → Left f i bs
 left-by e = record { same-image = sym (ap (λ (x : Flash). x .image) e); same-bytes = sym (ap (λ (x : Flash). x .bytes) e) }
 
 -- a block is put where it fits and is missing
@@ -64,31 +60,45 @@ module _ (i : Image) (bs : List ℕ) (n : ℕ) (d : List ℕ) where
   unfolding putBlock
   put-new h g = rw (h, g)
 
-  pub left-new : {map after : List ℕ} {number : ℕ} → fitsAt i n (length d) ≡ true → held (i .bitmap) n ≡ false → map ≡ marked (i .bitmap) n
-      → number ≡ oneMore (i .held) → after ≡ sets bs (n * i .«block_size») d → Left (putBlock i bs n d) (withHeld i map number) after
-  left-new h g e o f = left-by (put-new h g ∙ rw (e, o, f))
+-- the steps of the code, for every image of the parts that it has
+module _ (i : Image) (bs : List ℕ) {size each number : ℕ} {map : List ℕ} (p : Parts i size each map number) where
+  unchanged : _≡_ {A = Flash} (record { image = i; bytes = bs }) (record { image = withHeld i map number; bytes = bs })
+  unchanged = rw (← p .mapped, ← p .counted)
 
-module _ (v : List ℕ) (b : Block) (e : b ≡ blockOf v) where
-  pub data-inside : {start stop : ℕ} → b .«data» ≡ At start stop → (start ≤ stop) × (stop ≤ length v)
-  unfolding blockOf
-  data-inside {start} {stop} h = bytes-within v 4 start stop (sym (ap (λ (x : Block). x .«data») e) ∙ h)
+  module _ (n : ℕ) (d : List ℕ) where
+    fits-parts : fitsAt i n (length d) ≡ fitsIn size each n (length d)
+    unfolding fitsAt
+    fits-parts = rw (p .sized, p .blocked)
+
+    held-parts : held (i .bitmap) n ≡ held map n
+    held-parts = rw (p .mapped)
+
+    pub left-unfit : fitsIn size each n (length d) ≡ false → Left (putBlock i bs n d) (withHeld i map number) bs
+    left-unfit h = left-by (put-unfit i bs n d (fits-parts ∙ h) ∙ unchanged)
+
+    pub left-held : held map n ≡ true → Left (putBlock i bs n d) (withHeld i map number) bs
+    left-held h = left-by (put-held i bs n d (held-parts ∙ h) ∙ unchanged)
+
+    pub left-new : {marks after : List ℕ} {more : ℕ} → fitsIn size each n (length d) ≡ true → held map n ≡ false → marks ≡ marked map n
+        → more ≡ oneMore number → after ≡ sets bs (n * each) d → Left (putBlock i bs n d) (withHeld i marks more) after
+    left-new h g e o f =
+        left-by (put-new i bs n d (fits-parts ∙ h) (held-parts ∙ g) ∙ rw (p .mapped, p .counted, p .blocked, e, o, f))
 
   -- an offer is taken by its hash, its number and its bytes
-  module _ (i : Image) (bs : List ℕ) where
-    pub take-other : isText (i .hash) v false (b .hash) ≡ false → takeBlock i bs v ≡ record { image = i; bytes = bs }
-    unfolding takeBlock offered
-    take-other h = rw (← e, h)
+  module _ (v : List ℕ) (b : Block) {hash : List ℕ} (e : i .hash ≡ hash) where
+    hash-parts : isText (i .hash) v false (b .hash) ≡ isText hash v false (b .hash)
+    hash-parts = rw e
 
-    pub take-numberless : isText (i .hash) v false (b .hash) ≡ true → b .number ≡ NoNumber → takeBlock i bs v ≡ record { image = i; bytes = bs }
-    unfolding takeBlock offered
-    take-numberless h g = rw (← e, h, g)
+    pub left-other : isText hash v false (b .hash) ≡ false → Left (takeOf i bs v b) (withHeld i map number) bs
+    left-other h = left-by (rw (hash-parts ∙ h) unchanged)
 
-    pub take-dataless : {n : ℕ} → isText (i .hash) v false (b .hash) ≡ true → b .number ≡ Given n → b .«data» ≡ Absent
-        → takeBlock i bs v ≡ record { image = i; bytes = bs }
-    unfolding takeBlock offered
-    take-dataless h g k = rw (← e, h, g, k)
+    module _ (h : isText hash v false (b .hash) ≡ true) where
+      pub left-numberless : b .number ≡ NoNumber → Left (takeOf i bs v b) (withHeld i map number) bs
+      left-numberless g = left-by (rw (hash-parts ∙ h, g) unchanged)
 
-    pub take-this : {n start stop : ℕ} → isText (i .hash) v false (b .hash) ≡ true → b .number ≡ Given n → b .«data» ≡ At start stop
-        → takeBlock i bs v ≡ putBlock i bs n (take (stop - start) (drop start v))
-    unfolding takeBlock offered
-    take-this h g k = rw (← e, h, g, k)
+      pub left-dataless : {n : ℕ} → b .number ≡ Given n → b .«data» ≡ Absent → Left (takeOf i bs v b) (withHeld i map number) bs
+      left-dataless g k = left-by (rw (hash-parts ∙ h, g, k) unchanged)
+
+      pub left-this : {n start stop : ℕ} {d after : List ℕ} {image : Image} → b .number ≡ Given n → b .«data» ≡ At start stop
+          → d ≡ take (stop - start) (drop start v) → Left (putBlock i bs n d) image after → Left (takeOf i bs v b) image after
+      left-this g k f l = rw (hash-parts ∙ h, g, k, ← f) l

@@ -9,15 +9,19 @@ use lib.Dec.{eqb, ltb}
 use lib.Seq.{sets}
 use Rattle.buffer.specs.Pick.{pick}
 use Rattle.decode_image.specs.Read.{blockOf}
+use Rattle.decode_image.specs.declared.Block.{Block}
+use Rattle.csmp.specs.Values.{isText}
 use Rattle.csmp.specs.declared.Image.{Image}
-use Rattle.find.specs.Find.{isText}
 use Rattle.protobuf.specs.Given.{numberGiven, bytesGiven}
 use Rattle.transfer.specs.Blocks.{blocks, blockLength}
 use Rattle.transfer.specs.Bitmap.{held, marked, oneMore, Counted, withHeld}
 
 -- the number is in range, and the data has exactly the block's length
+abbrev pub fitsIn : ℕ → ℕ → ℕ → ℕ → Bool
+fitsIn size each n len = ltb n (blocks size each) && eqb len (blockLength size each n)
+
 unfoldable pub fitsAt : Image → ℕ → ℕ → Bool
-fitsAt i n len = ltb n (blocks (i .size) (i .«block_size»)) && eqb len (blockLength (i .size) (i .«block_size») n)
+fitsAt i n len = fitsIn (i .size) (i .«block_size») n len
 
 -- an open image and the bytes of the image buffer
 pub record Flash : Type 0 where
@@ -50,16 +54,29 @@ offerOf none d = none
 offerOf (some n) none = none
 offerOf (some n) (some bs) = some (record { number = n; bytes = bs })
 
+abbrev pub offeredBy : Image → List ℕ → Block → Option Offer
+offeredBy i v b = pick (isText (i .hash) v false (b .hash)) (offerOf (numberGiven (b .number)) (bytesGiven v (b .«data»))) none
+
 unfoldable pub offered : Image → List ℕ → Option Offer
-offered i v =
-    pick (isText (i .hash) v false (blockOf v .hash)) (offerOf (numberGiven (blockOf v .number)) (bytesGiven v (blockOf v .«data»))) none
+offered i v = offeredBy i v (blockOf v)
 
 abbrev pub putOffer : Image → List ℕ → Option Offer → Flash
 putOffer i bs none = record { image = i; bytes = bs }
 putOffer i bs (some o) = putBlock i bs (o .number) (o .bytes)
 
+-- an ImageBlock's value, and what it says
+abbrev pub takeOf : Image → List ℕ → List ℕ → Block → Flash
+takeOf i bs v b = putOffer i bs (offeredBy i v b)
+
 unfoldable pub takeBlock : Image → List ℕ → List ℕ → Flash
 takeBlock i bs v = putOffer i bs (offered i v)
+
+-- an image of these sizes with this bitmap and this number of blocks held, whatever its name and version
+pub record Parts (i : Image) (size each : ℕ) (map : List ℕ) (number : ℕ) : Type 0 where
+  pub sized : i .size ≡ size
+  pub blocked : i .«block_size» ≡ each
+  pub mapped : i .bitmap ≡ map
+  pub counted : i .held ≡ number
 
 -- what a call leaves of the open image and the buffer
 pub record Left (f : Flash) (image : Image) (bytes : List ℕ) : Type 0 where

@@ -1,19 +1,31 @@
 // The bitmap: block 0 is the top bit of the first byte.
 ghost use mathlib.Core.Path.{_≡_};
-ghost use Prim.Native.Nat.{_<_};
+ghost use Prim.Native.Nat.{_^_, _<_};
 ghost use Rattle.transfer.specs.Bitmap.{bit, raised, held, marked};
+
+// What bit j of a byte counts, from the low end.
+fn weight(j: u64) -> u8
+    requires { ⌜ j < 8 ⌝ }
+    ensures { λ r. ⌜ r ≡ 2 ^ j ⌝ }
+{
+    match j {
+        0 => 1,
+        1 => 2,
+        2 => 4,
+        3 => 8,
+        4 => 16,
+        5 => 32,
+        6 => 64,
+        _ => 128,
+    }
+}
 
 // Bit j of a byte, counted from the low end.
 fn bit_at(b: u8, j: u64) -> bool
+    requires { ⌜ j < 8 ⌝ }
     ensures { λ r. ⌜ r ≡ bit j b ⌝ }
 {
-    let mut rest = b;
-    let mut i = j;
-    while 0 < i {
-        rest /= 2;
-        i -= 1;
-    }
-    rest % 2 == 1
+    b / weight(j) % 2 == 1
 }
 
 // The byte with bit j set.
@@ -21,15 +33,15 @@ fn raise(b: u8, j: u64) -> u8
     requires { ⌜ j < 8 ⌝ }
     ensures { λ r. ⌜ r ≡ raised j b ⌝ }
 {
-    if j == 0 {
-        return b / 2 * 2 + 1;
+    if bit_at(b, j) {
+        return b;
     }
-    raise(b / 2, j - 1) * 2 + b % 2
+    b + weight(j)
 }
 
 // Whether block n is held.
-pub fn is_held(map: [u8; 128], n: u64) -> bool
-    ensures { λ r. ⌜ r ≡ held map n ⌝ }
+pub fn is_held(map: &[u8; 128], n: u64) -> bool
+    ensures { λ r. ⌜ r ≡ held (now (map .entry)) n ⌝ }
 {
     if n < 1024 {
         let i = (n / 8) as usize;
@@ -39,14 +51,11 @@ pub fn is_held(map: [u8; 128], n: u64) -> bool
 }
 
 // The bitmap with block n held.
-pub fn hold(map: [u8; 128], n: u64) -> [u8; 128]
-    ensures { λ r. ⌜ r ≡ marked map n ⌝ }
+pub fn hold(map: &mut [u8; 128], n: u64)
+    ensures { λ _. ⌜ now (map .exit) ≡ marked (now (map .entry)) n ⌝ }
 {
     if n < 1024 {
         let i = (n / 8) as usize;
-        let mut next = map;
-        next[i] = raise(map[i], 7 - n % 8);
-        return next;
+        map[i] = raise(map[i], 7 - n % 8);
     }
-    map
 }

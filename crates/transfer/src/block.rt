@@ -1,11 +1,13 @@
 // Taking a block: one that fits and is not held yet is written into its stretch of the image buffer only.
 use crate::bitmap;
-use csmp::Image;
+use decode_image::Block;
 use protobuf::Bytes;
 use protobuf::Number;
 ghost use mathlib.Core.Path.{_≡_};
 ghost use lib.Seq.{sets};
-ghost use Rattle.transfer.specs.Block.{fitsAt, putBlock, takeBlock, Left};
+ghost use Rattle.csmp.specs.declared.Image.{Image};
+ghost use Rattle.transfer.specs.Bitmap.{withHeld};
+ghost use Rattle.transfer.specs.Block.{fitsIn, putBlock, takeOf, Parts, Left};
 
 // The block copier: writes a block at the front of the part of the buffer that begins where the block starts.
 fn copy_block(flash: &mut [u8], start: usize, bytes: &[u8])
@@ -17,52 +19,72 @@ fn copy_block(flash: &mut [u8], start: usize, bytes: &[u8])
 }
 
 // Whether a block of that number and length fits: the number is in range and the length is the block's.
-fn fits_at(image: Image, n: u32, len: usize) -> bool
-    ensures { λ r. ⌜ r ≡ fitsAt image n len ⌝ }
+fn fits_at(size: u32, block_size: u32, n: u32, len: usize) -> bool
+    ensures { λ r. ⌜ r ≡ fitsIn size «block_size» n len ⌝ }
 {
-    if crate::block_count(image.size, image.block_size) <= n as u64 {
+    if crate::block_count(size, block_size) <= n as u64 {
         return false;
     }
-    len as u64 == crate::block_len(image.size, image.block_size, n)
+    len as u64 == crate::block_len(size, block_size, n)
 }
 
-// Puts block n into its stretch, unless it does not fit or is held.
-fn put_block(image: Image, flash: &mut [u8], n: u32, bytes: &[u8]) -> Image
-    ensures { λ r. ⌜ Left (putBlock image (now (flash .entry)) n (now (bytes .entry))) r (now (flash .exit)) ⌝ }
+// Puts block n into its stretch, unless it does not fit or is held; the number of blocks held then.
+fn put_block(
+    size: u32,
+    block_size: u32,
+    map: &mut [u8; 128],
+    held: u32,
+    flash: &mut [u8],
+    n: u32,
+    bytes: &[u8],
+) -> u32
+    ensures { λ r. ⌜ ((i : Image) → Parts i size «block_size» (now (map .entry)) held → Left (putBlock i (now (flash .entry)) n (now (bytes .entry))) (withHeld i (now (map .exit)) r) (now (flash .exit))) ⌝ }
 {
-    if !fits_at(image, n, bytes.len()) {
-        return image;
+    if !fits_at(size, block_size, n, bytes.len()) {
+        return held;
     }
-    let map = image.bitmap;
     if bitmap::is_held(map, n as u64) {
-        return image;
+        return held;
     }
-    let start = n as u64 * image.block_size as u64;
+    let start = n as u64 * block_size as u64;
     copy_block(flash, start as usize, bytes);
-    let marked = bitmap::hold(map, n as u64);
-    let mut next = image;
-    next.bitmap = marked;
-    next.held = std::num::wrapping_add_u32(image.held, 1);
-    next
+    bitmap::hold(map, n as u64);
+    std::num::wrapping_add_u32(held, 1)
 }
 
-// Takes the block that an ImageBlock's value offers, if its hash is the open one.
-pub fn take_block(image: Image, flash: &mut [u8], v: &[u8]) -> Image
-    ensures { λ r. ⌜ Left (takeBlock image (now (flash .entry)) (now (v .entry))) r (now (flash .exit)) ⌝ }
+// Takes the block that an ImageBlock offers, if its hash is the open one; the number of blocks held then. Of the open image it needs these
+// parts alone, so that no image is copied.
+pub fn take_block(
+    hash: &[u8; 32],
+    size: u32,
+    block_size: u32,
+    map: &mut [u8; 128],
+    held: u32,
+    flash: &mut [u8],
+    v: &[u8],
+    block: Block,
+) -> u32
+    ensures { λ r. ⌜ ((i : Image) → i .hash ≡ now (hash .entry) → Parts i size «block_size» (now (map .entry)) held → Left (takeOf i (now (flash .entry)) (now (v .entry)) block) (withHeld i (now (map .exit)) r) (now (flash .exit))) ⌝ }
 {
-    let block = decode_image::read_block(v);
-    let hash = image.hash;
     let given = block.hash;
-    if !find::is_text(&hash, v, given, false) {
-        return image;
+    if !csmp::is_text(hash, v, given, false) {
+        return held;
     }
     let number = block.number;
     let Number::Given(n) = number else {
-        return image;
+        return held;
     };
     let place = block.data;
     let Bytes::At(start, end) = place else {
-        return image;
+        return held;
     };
-    put_block(image, flash, n, &v[start..end])
+    put_block(
+        size,
+        block_size,
+        map,
+        held,
+        flash,
+        n,
+        buffer::part(v, start, end),
+    )
 }

@@ -3,7 +3,7 @@ use Prim.Native.Nat.{ℕ, zero, suc, _+_, _*_, _-_, _/_, _%_, _^_, _≤_, _<_}
 use mathlib.Core.Path.{_≡_, refl, sym, ap, _∙_}
 use mathlib.Core.List.{List, [], _∷_}
 use mathlib.Core.Bool.{Bool, true, false}
-use native.Mathlib.Nat.{mul-comm, mul-suc, mul-add, mul-assoc, mul-le-mul-left, lt-of-not-le}
+use native.Mathlib.Nat.{lt-of-not-le}
 use native.Mathlib.Numerals.{add-one, sub-one}
 use native.Mathlib.Omega.{arith}
 use borrow.Author.Tests.{lt-ltb, le-ltb, ltb-true, ltb-false}
@@ -15,7 +15,6 @@ use lib.Pow.{pow-mono, pow-add}
 use lib.Seq.{drop-cons}
 use Rattle.buffer.specs.Pick.{pick}
 use Rattle.varint.specs.Varint.{more, spelt, continued, spelling, varint, two, delimited}
-use Rattle.varint.specs.declared.Varint.{Varint}
 use Rattle.varint.specs.declared.Varint.the-variants.{Number, Unreadable}
 
 -- one more than the largest number that has a spelling with k bytes after the first
@@ -26,6 +25,11 @@ bound (suc k) = 128 * bound k
 pub bound-two : (k : ℕ) → 2 ≤ bound k
 bound-two zero = omega arith
 bound-two (suc k) = let h = bound-two k in omega arith
+
+pub bound-rises : (k j : ℕ) → k ≤ j → bound k ≤ bound j
+bound-rises zero j h = bound-two j
+bound-rises (suc k) zero h = absurd (omega arith)
+bound-rises (suc k) (suc j) h = let r = bound-rises k j (omega arith) in omega arith
 
 -- the shortest spelling, a byte at a time
 pub spelling-end : (k v : ℕ) → v < 128 → spelling k v ≡ v ∷ []
@@ -111,38 +115,15 @@ varint-leading w v g h =
 pub varint-1 : (v : ℕ) → v < 128 → length (varint v) ≤ 1
 varint-1 v h = let o = odd-sum v in omega (arith, varint-leading 7 v (omega arith) (omega arith))
 
+pub varint-2 : (v : ℕ) → v < 2 ^ 14 → length (varint v) ≤ 2
+varint-2 v h = let o = odd-sum v in omega (arith, varint-leading 14 v (omega arith) (omega arith))
+
 pub varint-5 : (v : ℕ) → v < 2 ^ 32 → length (varint v) ≤ 5
 varint-5 v h = let o = odd-sum v in omega (arith, varint-leading 32 v (omega arith) (omega arith))
 
 -- ten bytes, less one for every seven zeros at the top of their bits
 pub varint-64 : (v : ℕ) → v < 2 ^ 64 → 10 - (6 + leadingZeros 64 (odd v)) / 7 ≡ length (varint v)
 varint-64 v h = let o = odd-sum v in omega (arith, leading-le 64 (odd v), varint-leading 64 v (omega arith) (omega arith))
-
--- what the bytes read so far, worth `value` below `scale`, make of the rest
-abbrev pub finish : ℕ → ℕ → Varint → Varint
-finish value scale (Number x next) = Number (value + x * scale) next
-finish value scale Unreadable = Unreadable
-
-pub finish-start : (r : Varint) → r ≡ finish 0 1 r
-finish-start (Number x next) = ap (λ (k : ℕ). Number k next) (omega arith)
-finish-start Unreadable = refl
-
-pub finish-more : (value scale b : ℕ) (r : Varint) → finish value scale (more b r) ≡ finish (value + b % 128 * scale) (scale * 128) r
-unfolding more
-finish-more value scale b (Number x next) = ap (λ (k : ℕ). Number k next) (go (b % 128))
-  where
-    go : (d : ℕ) → value + (d + 128 * x) * scale ≡ value + d * scale + x * (scale * 128)
-    go d = rw (mul-comm (d + 128 * x) scale, mul-add scale d (128 * x), mul-comm scale d, mul-comm 128 x, mul-comm scale (x * 128), mul-assoc x 128 scale, mul-comm 128 scale) (omega arith)
-finish-more value scale b Unreadable = refl
-
--- a digit below what is left fits
-pub digit-fits : (value scale b r n : ℕ) → value < scale → b < r → scale * r ≡ n → value + b * scale < n
-digit-fits value scale b r n h k e =
-    let m = mul-le-mul-left {m = suc b} {n = r} scale k in
-    omega (arith, mul-suc scale b, mul-comm b scale)
-
-pub scale-fits : (scale k n : ℕ) → scale * bound (suc k) ≡ n → scale * 128 * bound k ≡ n
-scale-fits scale k n e = mul-assoc scale 128 (bound k) ∙ e
 
 -- the bytes from i on: the one there, and those after it
 pub from : (s : List ℕ) (i b : ℕ) → i < length s → b ≡ getD s i 0 → drop i s ≡ b ∷ drop (i + 1) s
@@ -171,15 +152,6 @@ module _ (s : List ℕ) (i b : ℕ) (h : i < length s) (e : b ≡ getD s i 0) wh
 pub read-none : (s : List ℕ) (i left : ℕ) → length s ≤ i → spelt left (drop i s) i ≡ Unreadable
 unfolding spelt
 read-none s i left h = rw (drop-of-length-le s {i = i} h)
-
--- what is left after one byte less
-pub scale-next : (scale left n : ℕ) → (left ≡ 0 → ⊥) → scale * bound left ≡ n → scale * 128 * bound (left - 1) ≡ n
-scale-next scale zero n z e = absurd (z refl)
-scale-next scale (suc k) n z e = rw (sub-one (suc k)) (scale-fits scale k n e)
-
-pub bound-more : (left : ℕ) → (left ≡ 0 → ⊥) → 256 ≤ bound left
-bound-more zero z = absurd (z refl)
-bound-more (suc k) z = let h = bound-two k in omega arith
 
 pub two-length : (a b : ℕ) → length (varint a) + length (varint b) ≡ length (two a b)
 unfolding two

@@ -1,6 +1,6 @@
 -- What `specs/Statements.antt` states of varints, and the bounds that readers above use.
 use Prim.Native.Nat.{ℕ, zero, suc, _+_, _*_, _/_, _%_, _^_, _≤_, _<_}
-use mathlib.Core.Path.{_≡_, refl, ap₂}
+use mathlib.Core.Path.{_≡_, refl, sym, ap₂, _∙_}
 use mathlib.Core.List.{List, [], _∷_, _++_}
 use mathlib.Core.Bool.{Bool, true, false}
 use native.Mathlib.Omega.{arith}
@@ -13,7 +13,7 @@ use Rattle.varint.specs.Varint.{more, spelt, varintAt, continued, spelli
 use Rattle.varint.specs.Statements.{RoundTrip, SamplesRead}
 use Rattle.varint.specs.declared.Varint.{Varint}
 use Rattle.varint.specs.declared.Varint.the-variants.{Number, Unreadable}
-use Rattle.varint.proofs.Laws.{bound, bound-two}
+use Rattle.varint.proofs.Laws.{bound, bound-two, bound-rises}
 
 back-at : (k v : ℕ) (rest : List ℕ) (at : ℕ) → v < bound k → spelt k (spelling k v ++ rest) at ≡ Number v (at + length (spelling k v))
 unfolding spelt spelling more continued
@@ -74,6 +74,13 @@ within-at k [] at v next e = let z : _≡_ {A = ℕ} 0 1 = cc in absurd (omega a
 within-at zero (b ∷ s) at v next e = within-last b at (length s) v next (ltb b 2) refl e
 within-at (suc k) (b ∷ s) at v next e =
     within-digit k b at (length s) v next (spelt k s (at + 1)) (ltb b 128) (λ x m q. within-at k s (at + 1) x m q) refl e
+
+-- what at most nine bytes spell leaves room for seven bits more
+pub spelt-small : (k : ℕ) (s : List ℕ) (at : ℕ) (r : Varint) → k ≤ 8 → r ≡ spelt k s at → (v next : ℕ) → r ≡ Number v next → v < 2 ^ 57
+spelt-small k s at r h e v next q =
+    let w = within-at k s at v next (sym e ∙ q) in
+    let b = bound-rises k 8 h in
+    omega (arith, w .small)
 
 -- what is read at a position of a slice lies in the slice
 pub record Inside (s : List ℕ) (at v next : ℕ) : Type 0 where

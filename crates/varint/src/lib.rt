@@ -1,10 +1,11 @@
 // Varints: numbers in bytes of seven bits, the lowest first.
+ghost use Prim.Native.Nat.{ℕ, _^_, _≤_, _<_};
 ghost use mathlib.Core.Path.{_≡_};
-ghost use lib.ListN.{length};
+ghost use lib.ListN.{length, drop};
 ghost use mathlib.Core.Bool.{true};
 ghost use Rattle.buffer.specs.Put.{Put};
 ghost use Rattle.buffer.specs.Stretch.{fits};
-ghost use Rattle.varint.specs.Varint.{varintAt, varint, two, delimitedAt, delimited};
+ghost use Rattle.varint.specs.Varint.{more, spelt, varintAt, varint, two, delimitedAt, delimited};
 use buffer::Stretch;
 
 // What stands at a position: a number and where the next byte is, or nothing readable.
@@ -19,31 +20,64 @@ pub enum Delimited {
     Unreadable,
 }
 
-// The number that stands at `at`: at most ten bytes, the tenth 0 or 1.
+// The number that stands at `at`: at most ten bytes, the tenth 0 or 1. Most have one byte, which is looked at here.
 pub fn read(s: &[u8], at: usize) -> Varint
     ensures { λ r. ⌜ r ≡ varintAt (now (s .entry)) at ⌝ }
 {
-    let mut value: u64 = 0;
-    let mut scale: u64 = 1;
-    let mut left: u32 = 9;
-    let mut i = at;
-    while i < s.len() {
-        let b = buffer::wide(s[i]);
-        if left == 0 {
-            if b < 2 {
-                return Varint::Number(value + b * scale, i + 1);
-            }
-            return Varint::Unreadable;
-        }
-        if b < 128 {
-            return Varint::Number(value + b * scale, i + 1);
-        }
-        value += b % 128 * scale;
-        scale *= 128;
-        left -= 1;
-        i += 1;
+    if s.len() <= at {
+        return Varint::Unreadable;
     }
-    Varint::Unreadable
+    let b = buffer::wide(s[at]);
+    if b < 128 {
+        return Varint::Number(b, at + 1);
+    }
+    joined(b, read_second(s, at + 1))
+}
+
+// The same behind a first byte. Most numbers have one byte or two, so that these are told without recursion.
+fn read_second(s: &[u8], at: usize) -> Varint
+    ensures { λ r. ⌜ r ≡ spelt 8 (drop at (now (s .entry))) at ⌝ }
+{
+    if s.len() <= at {
+        return Varint::Unreadable;
+    }
+    let b = buffer::wide(s[at]);
+    if b < 128 {
+        return Varint::Number(b, at + 1);
+    }
+    joined(b, read_bounded(s, at + 1, 7))
+}
+
+// The number that stands at `at`, where `left` bytes may follow the first.
+fn read_bounded(s: &[u8], at: usize, left: u32) -> Varint
+    requires { ⌜ left ≤ 8 ⌝ }
+    ensures { λ r. ⌜ r ≡ spelt left (drop at (now (s .entry))) at ⌝ }
+{
+    if s.len() <= at {
+        return Varint::Unreadable;
+    }
+    let b = buffer::wide(s[at]);
+    if left == 0 {
+        if b < 2 {
+            return Varint::Number(b, at + 1);
+        }
+        return Varint::Unreadable;
+    }
+    if b < 128 {
+        return Varint::Number(b, at + 1);
+    }
+    joined(b, read_bounded(s, at + 1, left - 1))
+}
+
+// The number whose low seven bits are those of `b`, and whose others are the number behind it.
+fn joined(b: u64, behind: Varint) -> Varint
+    requires { ⌜ ((v next : ℕ) → behind ≡ Varint.Number v next → v < 2 ^ 57) ⌝ }
+    ensures { λ r. ⌜ r ≡ more b behind ⌝ }
+{
+    let Varint::Number(v, next) = behind else {
+        return Varint::Unreadable;
+    };
+    Varint::Number(b % 128 + 128 * v, next)
 }
 
 // The bytes behind a length that stands at `at`.

@@ -73,7 +73,7 @@ fn ids(list: Ids) {
 
 fn redirect(v: &[u8]) {
     let m = decode::read_redirect(v);
-    readable(m.readable);
+    readable(m.reading.readable);
     let url = m.url;
     bytes(v, url);
     let immediate = m.immediate;
@@ -82,14 +82,14 @@ fn redirect(v: &[u8]) {
 
 fn session(v: &[u8]) {
     let m = decode::read_session(v);
-    readable(m.readable);
+    readable(m.reading.readable);
     let id = m.id;
     bytes(v, id);
 }
 
 fn report(v: &[u8]) {
     let m = decode_report::read_report(v);
-    readable(m.readable);
+    readable(m.reading.readable);
     let every = m.interval;
     interval(every);
     let first = m.ids;
@@ -102,7 +102,7 @@ fn report(v: &[u8]) {
 
 fn group(v: &[u8]) {
     let m = decode::read_group(v);
-    readable(m.readable);
+    readable(m.reading.readable);
     let kind = m.kind;
     given(kind);
     let id = m.id;
@@ -111,7 +111,7 @@ fn group(v: &[u8]) {
 
 fn transfer(v: &[u8]) {
     let m = decode_image::read_transfer(v);
-    readable(m.readable);
+    readable(m.reading.readable);
     let hw_id = m.hw_id;
     bytes(v, hw_id);
     let vendor = m.vendor_hw_id;
@@ -130,7 +130,7 @@ fn transfer(v: &[u8]) {
 
 fn block(v: &[u8]) {
     let m = decode_image::read_block(v);
-    readable(m.readable);
+    readable(m.reading.readable);
     let file_hash = m.hash;
     bytes(v, file_hash);
     let n = m.number;
@@ -141,7 +141,7 @@ fn block(v: &[u8]) {
 
 fn load(v: &[u8]) {
     let m = decode_image::read_load(v);
-    readable(m.readable);
+    readable(m.reading.readable);
     let file_hash = m.hash;
     bytes(v, file_hash);
     let time = m.time;
@@ -150,14 +150,14 @@ fn load(v: &[u8]) {
 
 fn hash(v: &[u8]) {
     let m = decode_image::read_hash(v);
-    readable(m.readable);
+    readable(m.reading.readable);
     let file_hash = m.hash;
     bytes(v, file_hash);
 }
 
 fn validity(v: &[u8]) {
     let m = decode::read_validity(v);
-    readable(m.readable);
+    readable(m.reading.readable);
     let from = m.not_before;
     moment(from);
     let to = m.not_after;
@@ -165,7 +165,7 @@ fn validity(v: &[u8]) {
 }
 
 fn signature(v: &[u8]) {
-    readable(decode::read_signature(v));
+    readable(decode::read_signature(v).readable);
 }
 
 // What the reader of a record's type says of its value.

@@ -1,8 +1,6 @@
--- `agent::datagram` meets its contract: refusals, then the frame.
-use mathlib.Core.Path.{sym, _∙_}
-use Rattle.calls.specs.Datagram.{Call, refusal}
-use Rattle.refusal.proofs.Laws.{room}
-use Rattle.agent.proofs.Laws.{call-refused, call-foreign, call-malformed, call-framed}
+-- `agent::datagram` meets its contract: by what the datagram asks.
+use Rattle.calls.specs.Datagram.{Call}
+use Rattle.agent.proofs.Laws.{call-nothing, call-reset, call-acknowledged, call-error, call-index, call-record, call-records, call-posted, call-acted}
 use borrow.Author.Needs.{needs}
 use Rattle.agent.proofs.datagram.Statement.{statement}
 use Rattle.agent.proofs.datagram.Tie as tie
@@ -11,75 +9,177 @@ use Rattle.agent.proofs.datagram.Tie as tie
 abbrev inputs : tie.Start → Call
 inputs s = record { out = s .args .out .now; bytes = s .args .bytes .now; store = s .args .store .now; time = s .args .time; verdict = s .args .verdict }
 
-datagram-refusal-requires : tie.Need-datagram-refusal-requires
-datagram-refusal-requires c κs = search needs
+receive-requires : tie.Need-receive-requires
+receive-requires c κs = search needs
+
+enum-known-outcome : tie.Need-enum-known-outcome
+enum-known-outcome c = search needs
 
 silent-requires : tie.Need-silent-requires
 silent-requires c κs = search needs
 
-returns : tie.Need-returns
-unfolding refusal
-returns c = call-refused _ _ (inputs (c .before .before .before .before .before .before .before)) (c .before .before .datagram-refusal .ensures) (c .before .if1 .taken) (c .silent .ensures)
+enum-known-outcome-2 : tie.Need-enum-known-outcome-2
+enum-known-outcome-2 c = search needs
 
-read-requires : tie.Need-read-requires
-read-requires c κs = search needs
+reset-requires : tie.Need-reset-requires
+reset-requires c κs = search needs
 
-enum-told : tie.Need-enum-told
-enum-told c = search needs
+enum-known-f : tie.Need-enum-known-f
+enum-known-f c = search needs
 
-silent-requires-2 : tie.Need-silent-requires-2
-silent-requires-2 c κs = search needs
+acknowledge-requires : tie.Need-acknowledge-requires
+acknowledge-requires c κs = search needs
 
-enum-known-kind : tie.Need-enum-known-kind
-enum-known-kind c = search needs
+enum-known-f-2 : tie.Need-enum-known-f-2
+enum-known-f-2 c = search needs
 
-refuse-format-requires : tie.Need-refuse-format-requires
-refuse-format-requires c κs = room _ _ _ _ _ _ (sym (c .before .before .before .before .before .before .datagram-refusal .ensures) ∙ c .before .before .before .before .before .if1 .left)
+answer-requires : tie.Need-answer-requires
+answer-requires c κs = search needs
 
-enum-known-frame : tie.Need-enum-known-frame
-enum-known-frame c = search needs
+enum-known-f-3 : tie.Need-enum-known-f-3
+enum-known-f-3 c = search needs
 
-receive-requires : tie.Need-receive-requires
-receive-requires c κs = search needs
+show-requires : tie.Need-show-requires
+show-requires c κs = search needs
 
-returns-2 : tie.Need-returns-2
-unfolding refusal
-returns-2 c = call-foreign _ _ (inputs (c .before .before .before .before .before .before .before .before .before .before)) (c .before .before .before .before .before .datagram-refusal .ensures) (c .before .before .before .before .if1 .left) (c .before .before .before .read .ensures) (c .before .enum-told .given .1) (c .silent2 .ensures)
+enum-known-f-4 : tie.Need-enum-known-f-4
+enum-known-f-4 c = search needs
+
+show-requires-2 : tie.Need-show-requires-2
+show-requires-2 c κs = search needs
+
+enum-known-f-5 : tie.Need-enum-known-f-5
+enum-known-f-5 c = search needs
+
+show-requires-3 : tie.Need-show-requires-3
+show-requires-3 c κs = search needs
+
+enum-known-f-6 : tie.Need-enum-known-f-6
+enum-known-f-6 c = search needs
+
+rest-requires : tie.Need-rest-requires
+rest-requires c κs = search needs
+
+begin-requires : tie.Need-begin-requires
+begin-requires c κs = search needs
+
+act-requires : tie.Need-act-requires
+act-requires c κs = search needs
 
 same-length : tie.Need-same-length
 same-length c = search needs
 
-returns-3 : tie.Need-returns-3
-unfolding refusal
-returns-3 c = call-malformed _ _ (inputs (c .before .before .before .before .before .before .before .before .before .before .before .before .before .before)) (c .before .before .before .before .before .before .before .before .before .datagram-refusal .ensures) (c .before .before .before .before .before .before .before .before .if1 .left) (c .before .before .before .before .before .before .before .read .ensures) (c .before .before .before .before .before .kind .given .1) (c .before .before .refuse-format .ensures)
-
 same-length-2 : tie.Need-same-length-2
 same-length-2 c = search needs
+
+returns : tie.Need-returns
+returns c =
+    let s = c .before .before .before .before .before .before .before .before .before .before .before .before .before .before .before .before .before .before .before .before .before .before .before .before .before in
+    call-acted (s .args .state) (s .args .image .now) (inputs s) (c .before .before .before .before .before .before .before .before .before .before .before .before .before .before .before .before .before .before .before .before .receive .ensures) (c .before .before .before .before .before .before .before .before .before .before .before .before .before .before .before .before .before .before .f6 .given .1) (c .before .before .before .before .before .before .before .before .before .before .before .before .before .before .before .before .rest .ensures) (c .before .before .before .before .before .before .before .before .before .before .before .before .begin .ensures) (c .before .before .before .before .before .before .before .if1 .taken) (c .before .before .before .before .act .ensures)
+
+answer-requires-2 : tie.Need-answer-requires-2
+answer-requires-2 c κs = search needs
 
 same-length-3 : tie.Need-same-length-3
 same-length-3 c = search needs
 
+same-length-4 : tie.Need-same-length-4
+same-length-4 c = search needs
+
+returns-2 : tie.Need-returns-2
+returns-2 c =
+    let s = c .before .before .before .before .before .before .before .before .before .before .before .before .before .before .before .before .before .before .before .before .before .before in
+    call-posted (s .args .state) (s .args .image .now) (inputs s) (c .before .before .before .before .before .before .before .before .before .before .before .before .before .before .before .before .before .receive .ensures) (c .before .before .before .before .before .before .before .before .before .before .before .before .before .before .before .f6 .given .1) (c .before .before .before .before .before .before .before .before .before .before .before .before .before .rest .ensures) (c .before .before .before .before .before .before .before .before .before .begin .ensures) (c .before .before .before .before .if1 .left) (c .before .before .answer2 .ensures)
+
+returns-3 : tie.Need-returns-3
+returns-3 c =
+    let s = c .before .before .before .before .before .before .before .before .before in
+    call-nothing (s .args .state) (s .args .image .now) (inputs s) (c .before .before .before .before .receive .ensures) (c .before .before .outcome .given .1) (c .silent .ensures)
+
+same-length-5 : tie.Need-same-length-5
+same-length-5 c = search needs
+
 returns-4 : tie.Need-returns-4
-unfolding refusal
-returns-4 c = call-framed _ _ (inputs (c .before .before .before .before .before .before .before .before .before .before .before .before .before .before .before .before .before)) (c .before .before .before .before .before .before .before .before .before .before .before .before .datagram-refusal .ensures) (c .before .before .before .before .before .before .before .before .before .before .before .if1 .left) (c .before .before .before .before .before .before .before .before .before .before .read .ensures) (room _ _ _ _ _ _ (sym (c .before .before .before .before .before .before .before .before .before .before .before .before .datagram-refusal .ensures) ∙ c .before .before .before .before .before .before .before .before .before .before .before .if1 .left)) (c .before .before .before .before .before .before .before .before .frame .given .1) (c .before .before .before .before .receive .ensures)
+returns-4 c =
+    let s = c .before .before .before .before .before .before .before .before .before .before .before .before in
+    call-reset (s .args .state) (s .args .image .now) (inputs s) (c .before .before .before .before .before .before .before .receive .ensures) (c .before .before .before .before .before .outcome2 .given .1) (c .before .before .reset .ensures)
+
+returns-5 : tie.Need-returns-5
+returns-5 c =
+    let s = c .before .before .before .before .before .before .before .before .before in
+    call-acknowledged (s .args .state) (s .args .image .now) (inputs s) (c .before .before .before .before .receive .ensures) (c .before .before .f .given .1) (c .acknowledge .ensures)
+
+same-length-6 : tie.Need-same-length-6
+same-length-6 c = search needs
+
+returns-6 : tie.Need-returns-6
+returns-6 c =
+    let s = c .before .before .before .before .before .before .before .before .before .before .before .before in
+    call-error (s .args .state) (s .args .image .now) (inputs s) (c .before .before .before .before .before .before .before .receive .ensures) (c .before .before .before .before .before .f2 .given .1) (c .before .before .answer .ensures)
+
+same-length-7 : tie.Need-same-length-7
+same-length-7 c = search needs
+
+returns-7 : tie.Need-returns-7
+returns-7 c =
+    let s = c .before .before .before .before .before .before .before .before .before .before .before .before in
+    call-index (s .args .state) (s .args .image .now) (inputs s) (c .before .before .before .before .before .before .before .receive .ensures) (c .before .before .before .before .before .f3 .given .1) (c .before .before .show .ensures)
+
+same-length-8 : tie.Need-same-length-8
+same-length-8 c = search needs
+
+returns-8 : tie.Need-returns-8
+returns-8 c =
+    let s = c .before .before .before .before .before .before .before .before .before .before .before .before in
+    call-record (s .args .state) (s .args .image .now) (inputs s) (c .before .before .before .before .before .before .before .receive .ensures) (c .before .before .before .before .before .f4 .given .1) (c .before .before .show2 .ensures)
+
+same-length-9 : tie.Need-same-length-9
+same-length-9 c = search needs
+
+returns-9 : tie.Need-returns-9
+returns-9 c =
+    let s = c .before .before .before .before .before .before .before .before .before .before .before .before in
+    call-records (s .args .state) (s .args .image .now) (inputs s) (c .before .before .before .before .before .before .before .receive .ensures) (c .before .before .before .before .before .f5 .given .1) (c .before .before .show3 .ensures)
 
 pub datagram-spec : {M : Type 1} → statement M
 datagram-spec =
     tie.close
     (tie.spec
-    datagram-refusal-requires
-    silent-requires
-    returns
-    read-requires
-    enum-told
-    silent-requires-2
-    enum-known-kind
-    refuse-format-requires
-    enum-known-frame
     receive-requires
-    returns-2
+    enum-known-outcome
+    silent-requires
+    enum-known-outcome-2
+    reset-requires
+    enum-known-f
+    acknowledge-requires
+    enum-known-f-2
+    answer-requires
+    enum-known-f-3
+    show-requires
+    enum-known-f-4
+    show-requires-2
+    enum-known-f-5
+    show-requires-3
+    enum-known-f-6
+    rest-requires
+    begin-requires
+    act-requires
     same-length
-    returns-3
     same-length-2
+    returns
+    answer-requires-2
     same-length-3
-    returns-4)
+    same-length-4
+    returns-2
+    returns-3
+    same-length-5
+    returns-4
+    returns-5
+    same-length-6
+    returns-6
+    same-length-7
+    returns-7
+    same-length-8
+    returns-8
+    same-length-9
+    returns-9)

@@ -1,7 +1,7 @@
 -- `decode_report::read_ids` meets its contract: the ids are those of the fields left, behind those found before.
 use Prim.Native.Nat.{ℕ, _-_}
 use mathlib.Core.Path.{_≡_, sym, ap, _∙_}
-use mathlib.Core.List.{List}
+use mathlib.Core.List.{List, map}
 use native.Mathlib.Omega.{arith}
 use lib.ListN.{length}
 use borrow.Author.Needs.{needs}
@@ -10,13 +10,15 @@ use Rattle.decimal.specs.declared.Ids.{Ids}
 use Rattle.protobuf.specs.Field.{fieldsFrom}
 use Rattle.protobuf.specs.declared.Field.{Field}
 use Rattle.protobuf.proofs.FieldLaws.{field-within, fields-end, fields-more, fields-unreadable}
-use Rattle.decode_report.specs.Report.{withFields, listedIn}
+use Rattle.decode_report.specs.Report.{withEntries, listedIn}
+use Rattle.tables.specs.Table.{strings, contentOf, contents, alike, valueOf}
+use Rattle.decode_report.proofs.ListLaws.{field-first}
 use Rattle.decode_report.proofs.read_ids.Statement.{statement}
 use Rattle.decode_report.proofs.read_ids.Tie as tie
 
 -- the ids of the fields left, behind those found before
 abbrev left : List ℕ → ℕ → Ids → Walked Field → Ids
-left v n ids x = withFields v n ids (x .items)
+left v n ids x = withEntries ids (valueOf strings n (map (contentOf v) (x .items)))
 
 abbrev Inv-loop : tie.InvT-loop
 Inv-loop v number ids₀ at₀ ids at = listedIn v number ≡ left v number ids (fieldsFrom v at)
@@ -28,7 +30,7 @@ no-ids-requires : tie.Need-no-ids-requires Inv-loop μ-loop
 no-ids-requires c κs = tt
 
 loop-holds : tie.Need-loop-holds Inv-loop μ-loop
-unfolding listedIn
+unfolding listedIn contents
 loop-holds c = rw (c .no-ids .ensures)
 
 field-at-requires : tie.Need-field-at-requires Inv-loop μ-loop
@@ -41,7 +43,7 @@ enum-told : tie.Need-enum-told Inv-loop μ-loop
 enum-told c = search needs
 
 returns : tie.Need-returns Inv-loop μ-loop
-unfolding withFields
+unfolding withEntries valueOf alike
 returns c =
     let l = c .before .before .before .before .loop in
     sym (l .inv ∙ ap (left _ _ _) (fields-unreadable _ _ (c .before .before .before .loop-test .taken) (sym (c .before .before .field-at .ensures) ∙ c .enum-told .given .1)))
@@ -61,14 +63,13 @@ loop-less c =
     omega arith
 
 loop-again : tie.Need-loop-again Inv-loop μ-loop
-unfolding withFields
 loop-again c =
     let x = c .before .before in
     let e = sym (x .before .before .field-at .ensures) ∙ x .f .given .1 in
-    rw (c .add-field .ensures) (x .before .before .before .before .loop .inv ∙ ap (left _ _ _) (fields-more _ _ _ (x .before .before .before .loop-test .taken) e))
+    rw (c .add-field .ensures) (x .before .before .before .before .loop .inv ∙ ap (left _ _ _) (fields-more _ _ _ (x .before .before .before .loop-test .taken) e) ∙ field-first _ _ _ _ _)
 
 returns-2 : tie.Need-returns-2 Inv-loop μ-loop
-unfolding withFields
+unfolding withEntries valueOf alike
 returns-2 c =
     let l = c .before .loop in sym (l .inv ∙ ap (left _ _ _) (fields-end _ _ (c .loop-test .left)))
 

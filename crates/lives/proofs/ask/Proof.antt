@@ -1,6 +1,5 @@
 -- `ask` is safe: no more is lent than there is.
 use mathlib.Core.Path.{sym}
-use native.Mathlib.Omega.{arith}
 use lib.Seq.{length-take-le}
 use borrow.Author.Needs.{needs}
 use Rattle.lives.proofs.ask.Statement.{statement}
@@ -28,13 +27,13 @@ slice-relend-prefix-lend : tie.Need-slice-relend-prefix-lend
 slice-relend-prefix-lend c = search needs
 
 slice-aggregate-lend : tie.Need-slice-aggregate-lend
-slice-aggregate-lend c = let k = c .before .image-room .ensures in let p = c .before .before .before .before .before .before .before .before .before .before .before .pre in sym (length-take-le _ _ (omega arith))
+slice-aggregate-lend c = sym (length-take-le _ _ (c .before .image-room .ensures))
 
 array-borrow-prefix-out : tie.Need-array-borrow-prefix-out
 array-borrow-prefix-out c = search needs
 
 slice-aggregate-lend-2 : tie.Need-slice-aggregate-lend-2
-slice-aggregate-lend-2 c = let k = c .before .before .before .room .ensures in sym (length-take-le _ _ (omega arith))
+slice-aggregate-lend-2 c = sym (length-take-le _ _ (c .before .before .before .room .ensures))
 
 lend-requires : tie.Need-lend-requires
 lend-requires c κs = search needs

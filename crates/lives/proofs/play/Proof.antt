@@ -1,6 +1,7 @@
 -- `play` is safe and ends: the next line begins behind this one's begin.
 use Prim.Native.Nat.{_-_}
 use mathlib.Core.Path.{_≡_}
+use native.Mathlib.Omega.{arith}
 use lib.ListN.{length}
 use borrow.Author.Needs.{needs}
 use Rattle.lives.proofs.play.Statement.{statement}
@@ -12,11 +13,11 @@ Inv-loop s image₀ state₀ held₀ at₀ image state held at = length image �
 abbrev μ-loop : tie.MeasureT-loop
 μ-loop s image₀ state₀ held₀ at₀ image state held at = length s - at
 
-slice-aggregate-made : tie.Need-slice-aggregate-made Inv-loop μ-loop
-slice-aggregate-made c = search needs
+slice-aggregate-set-up : tie.Need-slice-aggregate-set-up Inv-loop μ-loop
+slice-aggregate-set-up c = search needs
 
-made-requires : tie.Need-made-requires Inv-loop μ-loop
-made-requires c κs = search needs
+set-up-requires : tie.Need-set-up-requires Inv-loop μ-loop
+set-up-requires c κs = search needs
 
 loop-holds : tie.Need-loop-holds Inv-loop μ-loop
 loop-holds c = search needs
@@ -40,7 +41,7 @@ play-line-requires : tie.Need-play-line-requires Inv-loop μ-loop
 play-line-requires c κs = search needs
 
 loop-less : tie.Need-loop-less Inv-loop μ-loop
-loop-less c = search needs
+loop-less c = let line = c .before .before .before .before .before .before in omega (arith, line .line-at .ensures (line .before .loop-test .taken))
 
 loop-again : tie.Need-loop-again Inv-loop μ-loop
 loop-again c = search needs
@@ -54,8 +55,8 @@ play-spec =
     (tie.spec
     Inv-loop
     μ-loop
-    slice-aggregate-made
-    made-requires
+    slice-aggregate-set-up
+    set-up-requires
     loop-holds
     line-at-requires
     held-requires

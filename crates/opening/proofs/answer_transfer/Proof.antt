@@ -6,9 +6,6 @@ use borrow.Author.Needs.{needs}
 use Rattle.opening.proofs.answer_transfer.Statement.{statement}
 use Rattle.opening.proofs.answer_transfer.Tie as tie
 
-read-transfer-requires : tie.Need-read-transfer-requires
-read-transfer-requires c κs = search needs
-
 is-whole-requires : tie.Need-is-whole-requires
 is-whole-requires c κs = search needs
 
@@ -16,7 +13,7 @@ keep-requires : tie.Need-keep-requires
 keep-requires c κs = search needs
 
 returns : tie.Need-returns
-returns c = c .keep .ensures ∙ sym (transfer-bad _ _ (c .before .before .before .read-transfer .ensures) _ _ (sym (c .before .before .is-whole .ensures) ∙ not-true _ (c .before .if1 .taken)))
+returns c = c .keep .ensures ∙ sym (transfer-bad _ _ _ _ (sym (c .before .before .is-whole .ensures) ∙ not-true _ (c .before .if1 .taken)))
 
 number-or-zero-requires : tie.Need-number-or-zero-requires
 number-or-zero-requires c κs = search needs
@@ -31,7 +28,7 @@ keep-requires-2 : tie.Need-keep-requires-2
 keep-requires-2 c κs = search needs
 
 returns-2 : tie.Need-returns-2
-returns-2 c = c .keep2 .ensures ∙ sym (transfer-fault _ _ (c .before .before .before .before .before .before .before .read-transfer .ensures) _ _ (sym (c .before .before .before .before .before .before .is-whole .ensures) ∙ not-false _ (c .before .before .before .before .before .if1 .left)) (c .before .before .before .before .number-or-zero .ensures) (c .before .before .before .number-or-zero2 .ensures) (c .before .before .fault .ensures) (c .before .if2 .taken))
+returns-2 c = c .keep2 .ensures ∙ sym (transfer-fault _ _ _ _ (sym (c .before .before .before .before .before .before .is-whole .ensures) ∙ not-false _ (c .before .before .before .before .before .if1 .left)) (c .before .before .before .before .number-or-zero .ensures) (c .before .before .before .number-or-zero2 .ensures) (c .before .before .fault .ensures) (c .before .if2 .taken))
 
 opened-requires : tie.Need-opened-requires
 opened-requires c κs = search needs
@@ -40,13 +37,12 @@ open-or-keep-requires : tie.Need-open-or-keep-requires
 open-or-keep-requires c κs = search needs
 
 returns-3 : tie.Need-returns-3
-returns-3 c = c .open-or-keep .ensures ∙ sym (transfer-open _ _ (c .before .before .before .before .before .before .before .before .read-transfer .ensures) _ _ (sym (c .before .before .before .before .before .before .before .is-whole .ensures) ∙ not-false _ (c .before .before .before .before .before .before .if1 .left)) (c .before .before .before .before .before .number-or-zero .ensures) (c .before .before .before .before .number-or-zero2 .ensures) (c .before .before .before .fault .ensures) (c .before .before .if2 .left) (c .before .opened .ensures))
+returns-3 c = c .open-or-keep .ensures ∙ sym (transfer-open _ _ _ _ (sym (c .before .before .before .before .before .before .before .is-whole .ensures) ∙ not-false _ (c .before .before .before .before .before .before .if1 .left)) (c .before .before .before .before .before .number-or-zero .ensures) (c .before .before .before .before .number-or-zero2 .ensures) (c .before .before .before .fault .ensures) (c .before .before .if2 .left) (c .before .opened .ensures))
 
 pub answer-transfer-spec : {M : Type 1} → statement M
 answer-transfer-spec =
     tie.close
     (tie.spec
-    read-transfer-requires
     is-whole-requires
     keep-requires
     returns

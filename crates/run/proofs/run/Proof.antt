@@ -1,24 +1,26 @@
 -- `run::run` meets its contract: what the records did so far and those from where the loop stands lead to what all of them do.
-use Prim.Native.Nat.{_-_}
+use Prim.Native.Nat.{_+_, _*_, _-_, _≤_}
 use mathlib.Core.Path.{_≡_, refl, sym, _∙_}
 use native.Mathlib.Omega.{arith}
 use borrow.Author.Needs.{needs}
 use lib.ListN.{length}
 use Rattle.tlv.proofs.Laws.{record-inside}
 use Rattle.step.specs.Step.{worldOf}
-use Rattle.run.proofs.Walk.{rest-end, rest-unreadable, Going, going-start, going-end, going-next}
+use Rattle.run.specs.Run.{recordsAt}
+use Rattle.run.proofs.Walk.{at-end, at-unreadable, Going, going-start, going-end, going-next}
 use Rattle.run.proofs.run.Statement.{statement}
 use Rattle.run.proofs.run.Tie as tie
 
 abbrev Inv-loop : tie.InvT-loop
-Inv-loop device flash₀ payload out₀ ran₀ at₀ flash out ran at =
-    Going device (worldOf ran₀ flash₀) payload out₀ (ran₀ .end) at (worldOf ran flash) out (ran .end) × (length flash ≡ length flash₀)
+Inv-loop device flash₀ payload from out₀ ran₀ at₀ flash out ran at =
+    (ran₀ .end + 48 * length (recordsAt payload from) ≤ length out₀ → Going device (worldOf ran₀ flash₀) payload from out₀ (ran₀ .end) at (worldOf ran flash) out (ran .end))
+    × (length flash ≡ length flash₀) × (length out ≡ length out₀)
 
 abbrev μ-loop : tie.MeasureT-loop
-μ-loop device flash₀ payload out₀ ran₀ at₀ flash out ran at = length payload - at
+μ-loop device flash₀ payload from out₀ ran₀ at₀ flash out ran at = length payload - at
 
 loop-holds : tie.Need-loop-holds Inv-loop μ-loop
-loop-holds c = (going-start _ _ _ _ _ (c .before .before .before .pre), refl)
+loop-holds c = (going-start _ _ _ _ _ _, refl, refl)
 
 take-record-requires : tie.Need-take-record-requires Inv-loop μ-loop
 take-record-requires c κs = search needs
@@ -37,7 +39,7 @@ same-length-2 c = search needs
 
 returns : tie.Need-returns Inv-loop μ-loop
 returns c = let l = c .before .before .before .before .loop in
-    going-end _ _ _ _ _ (l .at) (l .inv .0) (rest-unreadable _ _ (c .before .before .before .loop-test .taken) (sym (c .before .before .take-record .ensures) ∙ c .enum-told .given .1))
+    λ h. going-end _ _ _ _ _ _ (l .at) (l .inv .0 h) (at-unreadable _ _ (c .before .before .before .loop-test .taken) (sym (c .before .before .take-record .ensures) ∙ c .enum-told .given .1))
 
 sub-run-record : tie.Need-sub-run-record Inv-loop μ-loop
 sub-run-record c = let i = record-inside (c .before .before .before .before .before .before .before .before .before .before .args .payload .now) (c .before .before .before .before .before .before .loop .at) _ (sym (c .before .before .before .before .take-record .ensures) ∙ c .before .before .r .given .1) in
@@ -61,7 +63,8 @@ loop-less c = let i = record-inside (c .before .before .before .before .before .
 loop-again : tie.Need-loop-again Inv-loop μ-loop
 loop-again c = let l = c .before .before .before .before .before .before .before .before .before .before .before .before .before .loop in
     let s = c .before .before .before .before .run-record .ensures in (
-      going-next _ _ _ _ _ (l .at) _ _ _ _ _ _ _ (l .inv .0) (sym (c .before .before .before .before .before .before .before .before .before .before .before .take-record .ensures) ∙ c .before .before .before .before .before .before .before .before .before .r .given .1) (s .world) (s .appended),
+      λ h. going-next _ _ _ _ _ _ (l .at) _ _ _ _ _ _ _ (l .inv .0 h) (sym (c .before .before .before .before .before .before .before .before .before .before .before .take-record .ensures) ∙ c .before .before .before .before .before .before .before .before .before .r .given .1) (s .world) (s .appended),
+      search needs,
       search needs,
     )
 
@@ -73,7 +76,7 @@ same-length-4 c = search needs
 
 returns-2 : tie.Need-returns-2 Inv-loop μ-loop
 returns-2 c = let l = c .before .loop in
-    going-end _ _ _ _ _ (l .at) (l .inv .0) (rest-end _ _ (c .loop-test .left))
+    λ h. going-end _ _ _ _ _ _ (l .at) (l .inv .0 h) (at-end _ _ (c .loop-test .left))
 
 pub run-spec : {M : Type 1} → statement M
 run-spec =

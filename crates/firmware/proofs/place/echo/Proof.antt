@@ -1,11 +1,8 @@
--- `firmware::place::echo` meets its contract: bytes that were found lie in the value, and both parts are what their makers ensure.
+-- `firmware::place::echo` meets its contract: both parts are what their makers ensure.
 use Rattle.firmware.specs.Place.{echoed}
 use borrow.Author.Needs.{needs}
 use Rattle.firmware.proofs.place.echo.Statement.{statement}
 use Rattle.firmware.proofs.place.echo.Tie as tie
-
-last-bytes-requires : tie.Need-last-bytes-requires
-last-bytes-requires c κs = search needs
 
 is-hash-requires : tie.Need-is-hash-requires
 is-hash-requires c κs = search needs
@@ -15,7 +12,7 @@ hash-at-requires c κs = search needs
 
 returns : tie.Need-returns
 unfolding echoed
-returns c = rw (c .hash-at .ensures, c .before .is-hash .ensures, c .before .before .last-bytes .ensures)
+returns c = rw (c .hash-at .ensures, c .before .is-hash .ensures)
 
 pub echo-spec : {M : Type 1} → statement M
-echo-spec = tie.close (tie.spec last-bytes-requires is-hash-requires hash-at-requires returns)
+echo-spec = tie.close (tie.spec is-hash-requires hash-at-requires returns)

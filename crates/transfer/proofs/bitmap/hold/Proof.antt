@@ -5,8 +5,8 @@ use borrow.Author.Needs.{needs}
 use Rattle.transfer.proofs.bitmap.hold.Statement.{statement}
 use Rattle.transfer.proofs.bitmap.hold.Tie as tie
 
-array-read-raise : tie.Need-array-read-raise
-array-read-raise c = search needs
+element-copy-out-raise : tie.Need-element-copy-out-raise
+element-copy-out-raise c = search needs
 
 sub-raise : tie.Need-sub-raise
 sub-raise c = search needs
@@ -14,11 +14,11 @@ sub-raise c = search needs
 raise-requires : tie.Need-raise-requires
 raise-requires c κs = search needs
 
-array-write-next : tie.Need-array-write-next
-array-write-next c = search needs
+element-write-map : tie.Need-element-write-map
+element-write-map c = search needs
 
 returns : tie.Need-returns
-returns c = rw (c .raise .ensures) (sym (marked-below _ _ (c .before .if1 .taken)))
+returns c = rw (c .raise .ensures) (sym (marked-below _ _ (c .before .before .if1 .taken)))
 
 returns-2 : tie.Need-returns-2
 returns-2 c = sym (marked-beyond _ _ (c .if1 .left))
@@ -26,4 +26,4 @@ returns-2 c = sym (marked-beyond _ _ (c .if1 .left))
 pub hold-spec : {M : Type 1} → statement M
 hold-spec =
     tie.close
-    (tie.spec array-read-raise sub-raise raise-requires array-write-next returns returns-2)
+    (tie.spec element-copy-out-raise sub-raise raise-requires element-write-map returns returns-2)

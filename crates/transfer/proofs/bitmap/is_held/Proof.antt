@@ -5,8 +5,8 @@ use borrow.Author.Needs.{needs}
 use Rattle.transfer.proofs.bitmap.is_held.Statement.{statement}
 use Rattle.transfer.proofs.bitmap.is_held.Tie as tie
 
-array-read-bit-at : tie.Need-array-read-bit-at
-array-read-bit-at c = search needs
+element-copy-out-bit-at : tie.Need-element-copy-out-bit-at
+element-copy-out-bit-at c = search needs
 
 sub-bit-at : tie.Need-sub-bit-at
 sub-bit-at c = search needs
@@ -15,10 +15,10 @@ bit-at-requires : tie.Need-bit-at-requires
 bit-at-requires c κs = search needs
 
 returns : tie.Need-returns
-returns c = c .bit-at .ensures ∙ sym (held-below _ _ (c .before .if1 .taken))
+returns c = c .bit-at .ensures ∙ sym (held-below _ _ (c .before .before .if1 .taken))
 
 returns-2 : tie.Need-returns-2
 returns-2 c = sym (held-beyond _ _ (c .if1 .left))
 
 pub is-held-spec : {M : Type 1} → statement M
-is-held-spec = tie.close (tie.spec array-read-bit-at sub-bit-at bit-at-requires returns returns-2)
+is-held-spec = tie.close (tie.spec element-copy-out-bit-at sub-bit-at bit-at-requires returns returns-2)
