@@ -40,8 +40,6 @@ module _ (a : Assigned) (v : List ℕ) (m : Session) (e : m ≡ sessionOf v) whe
         reporting = a .reporting;
         interval = a .interval;
         ids = a .ids;
-        heartbeat = a .heartbeat;
-        «heartbeat_ids» = a .«heartbeat_ids»;
       }
   unfolding withSession
   session-some start stop h s k = rw (rw e at h, k)

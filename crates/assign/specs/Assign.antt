@@ -1,4 +1,4 @@
--- What a session, a report and a GroupAssign assign, document 01, "Registration and reports", as document 02, Q-3, amends it.
+-- What a session, a report and a GroupAssign assign, document 01, "Registration and reports", as document 02, Q-3 and Q-10, amends it.
 use Prim.Native.Nat.{ℕ, _+_}
 use mathlib.Core.List.{List, [], _∷_}
 use mathlib.Core.Bool.{true, false}
@@ -32,14 +32,12 @@ inSession a (some id) =
       reporting = a .reporting;
       interval = a .interval;
       ids = a .ids;
-      heartbeat = a .heartbeat;
-      «heartbeat_ids» = a .«heartbeat_ids»;
     }
 
 unfoldable pub withSession : Assigned → List ℕ → Assigned
 withSession a v = inSession a (bytesGiven v (sessionOf v .id))
 
--- 13: a report, as it is given
+-- 13: a report, its interval and its list
 unfoldable pub withReport : Assigned → List ℕ → Assigned
 withReport a v =
     record {
@@ -49,8 +47,6 @@ withReport a v =
       reporting = true;
       interval = reportOf v .interval;
       ids = reportOf v .ids;
-      heartbeat = reportOf v .heartbeat;
-      «heartbeat_ids» = reportOf v .«heartbeat_ids»;
     }
 
 -- 55: where the pair of a type is held, or else the end of those held
@@ -83,6 +79,4 @@ holding a g =
       reporting = a .reporting;
       interval = a .interval;
       ids = a .ids;
-      heartbeat = a .heartbeat;
-      «heartbeat_ids» = a .«heartbeat_ids»;
     }

@@ -41,7 +41,7 @@ pub fn with_session(assigned: Assigned, v: &[u8]) -> Assigned
     next
 }
 
-// A report, as it is given.
+// A report: its interval and its list.
 pub fn with_report(assigned: Assigned, v: &[u8]) -> Assigned
     ensures { λ r. ⌜ r ≡ withReport assigned (now (v .entry)) ⌝ }
 {
@@ -50,8 +50,6 @@ pub fn with_report(assigned: Assigned, v: &[u8]) -> Assigned
     let session = assigned.session;
     let interval = m.interval;
     let ids = m.ids;
-    let heartbeat = m.heartbeat;
-    let heartbeat_ids = m.heartbeat_ids;
     Assigned {
         groups,
         in_session: assigned.in_session,
@@ -59,8 +57,6 @@ pub fn with_report(assigned: Assigned, v: &[u8]) -> Assigned
         reporting: true,
         interval,
         ids,
-        heartbeat,
-        heartbeat_ids,
     }
 }
 

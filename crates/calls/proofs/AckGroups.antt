@@ -5,7 +5,6 @@ use mathlib.Core.List.{List, [], _∷_}
 use mathlib.Core.Bool.{Bool, true, false, true≢false}
 use mathlib.Core.Option.{Option, none, some}
 use native.Mathlib.Omega.{arith}
-use borrow.Author.Tests.{eqb-true}
 use lib.Dec.{eqb, leb}
 use Rattle.assign.specs.Assign.{inSession, withSession, withReport, placeOf, regrouped}
 use Rattle.assign.specs.declared.Regrouped.{Regrouped}
@@ -26,7 +25,7 @@ use Rattle.state.specs.declared.Registration.{Registration}
 use Rattle.tlv.specs.Record.{Tlv, records, readable}
 use Rattle.calls.specs.Groups.{idHeld, idAssigned, idAfter}
 use Rattle.calls.specs.Made.{DeviceSized}
-use Rattle.calls.proofs.AckSizes.{by-record, Learns, noted-sized}
+use Rattle.calls.proofs.AckSizes.{unlike, by-record, Learns, noted-sized}
 use Rattle.calls.proofs.Pairs.{with-grows, with-places, with-id}
 
 -- what a part of an acknowledgement does to the groups, where it can still be accepted after it
@@ -132,20 +131,17 @@ moves-55 l m k v t = moves-as l m _ (idNoted k v) (λ type was. rw t)
 moves-other : (l m : Learnt) (k : ℕ) (v : List ℕ) → eqb k 55 ≡ false → Moves still l m → Moves (idNoted k v) l m
 moves-other l m k v t = moves-as l m still (idNoted k v) (λ type was. rw t)
 
-not-55 : (k n : ℕ) → eqb n 55 ≡ false → eqb k n ≡ true → eqb k 55 ≡ false
-not-55 k n h e = rw (eqb-true k n e) h
-
 module _ (d : Device) (time : Point) where
   pub noted-moves : (l : Learnt) (k : ℕ) (v : List ℕ) → Learns d l → Moves (idNoted k v) l (noted d time l k v)
   noted-moves l k v h =
       by-record d time l k v (Moves (idNoted k v) l)
-      (λ e. moves-other l _ k v (not-55 k 6 refl e) (redirect-moves d l v))
-      (λ e. moves-other l _ k v (not-55 k 7 refl e) (session-moves d l v))
-      (λ e. moves-other l _ k v (not-55 k 13 refl e) (report-moves d l v))
+      (λ e. moves-other l _ k v (unlike k 6 55 e refl) (redirect-moves d l v))
+      (λ e. moves-other l _ k v (unlike k 7 55 e refl) (session-moves d l v))
+      (λ e. moves-other l _ k v (unlike k 13 55 e refl) (report-moves d l v))
       (λ e. moves-55 l _ k v e (group-moves d l h v))
-      (λ e. moves-other l _ k v (not-55 k 76 refl e) (validity-moves d l v time))
-      (λ e. moves-other l _ k v (not-55 k 77 refl e) (signature-moves d l v))
-      (λ e. moves-other l l k v e (unmoved l l (λ r. r) refl refl))
+      (λ e. moves-other l _ k v (unlike k 76 55 e refl) (validity-moves d l v time))
+      (λ e. moves-other l _ k v (unlike k 77 55 e refl) (signature-moves d l v))
+      (λ _ e. moves-other l l k v e (unmoved l l (λ r. r) refl refl))
 
   learnt-moves : (l : Learnt) (ts : List Tlv) → DeviceSized d → Learns d l → Moves (λ type was. idAfter type was ts) l (learntOf d time l ts)
   unfolding learntOf idAfter

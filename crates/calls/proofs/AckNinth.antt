@@ -81,9 +81,9 @@ module _ (l : Learnt) where
       by-record d time l k v (λ (m : Learnt). m .readable ≡ true → l .readable ≡ true)
       (λ _ r. both (l .readable) _ r .0) (λ _ r. both (l .readable) _ r .0) (λ _ r. both (l .readable) _ r .0)
       (λ _ r. grouped-readable (groupOf v .kind) (groupOf v .id) (both (withGroup l (groupOf v) .readable) _ r .0))
-      (λ _ r. both (l .readable) _ r .0) (λ _ r. both (l .readable) _ r .0) (λ _ r. r)
+      (λ _ r. both (l .readable) _ r .0) (λ _ r. both (l .readable) _ r .0) (λ _ _ r. r)
 
-learnt-readable : (d : Device) (time : Point) (l : Learnt) (ts : List Tlv) → learntOf d time l ts .readable ≡ true → l .readable ≡ true
+pub learnt-readable : (d : Device) (time : Point) (l : Learnt) (ts : List Tlv) → learntOf d time l ts .readable ≡ true → l .readable ≡ true
 unfolding learntOf
 learnt-readable d time l [] r = r
 learnt-readable d time l (t ∷ ts) r =
@@ -127,7 +127,7 @@ module _ (d : Device) (l : Learnt) (h : Learns d l) (fits : l .«needs_ninth» �
       (λ _ _ e. absurd (true≢false (sym e ∙ fits)))
       (λ t r e. nine-as _ _ (λ type. rw t)
       (grouped-ninth (groupOf v .kind) (groupOf v .id) (both (withGroup l (groupOf v) .readable) _ r .0) e))
-      (λ _ _ e. absurd (true≢false (sym e ∙ fits))) (λ _ _ e. absurd (true≢false (sym e ∙ fits))) (λ _. no-ninth (idNoted k v))
+      (λ _ _ e. absurd (true≢false (sym e ∙ fits))) (λ _ _ e. absurd (true≢false (sym e ∙ fits))) (λ _ _. no-ninth (idNoted k v))
 
 module _ (d : Device) (time : Point) (k : DeviceSized d) where
   learnt-ninth : (l : Learnt) (ts : List Tlv) → Learns d l → l .«needs_ninth» ≡ false → learntOf d time l ts .readable ≡ true

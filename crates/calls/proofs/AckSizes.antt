@@ -2,10 +2,10 @@
 use Prim.Native.Nat.{ℕ, _-_, _≤_}
 use mathlib.Core.Path.{_≡_}
 use mathlib.Core.List.{List, [], _∷_}
-use mathlib.Core.Bool.{Bool, true, false, not, _||_}
+use mathlib.Core.Bool.{Bool, true, false, not}
 use mathlib.Core.Option.{Option, none, some}
 use native.Mathlib.Omega.{arith}
-use borrow.Author.Tests.{leb-true, leb-false}
+use borrow.Author.Tests.{not-true, leb-true, leb-false, eqb-true}
 use lib.Dec.{eqb, leb}
 use lib.ListN.{length, length-take}
 use Rattle.assign.specs.Assign.{sessionIdOf, inSession, withSession, withReport, placeOf, regrouped}
@@ -70,7 +70,7 @@ module _ (d : Device) (r : Registration) (k : DeviceSized d) (s : RegistrationSi
 in-session-sized : (a : Assigned) → AssignedSized a → (id : Option (List ℕ)) → IfAny (λ (l : List ℕ). length l ≤ 64) id → AssignedSized (inSession a id)
 unfolding sessionIdOf
 in-session-sized a s none h = s
-in-session-sized a s (some id) h = record { list = s .list; groups = s .groups; types = s .types; session = h; ids = s .ids; heartbeat = s .heartbeat }
+in-session-sized a s (some id) h = record { list = s .list; groups = s .groups; types = s .types; session = h; ids = s .ids }
 
 session-sized : (a : Assigned) → AssignedSized a → (v : List ℕ) → sessionOf v .reading .readable ≡ true → AssignedSized (withSession a v)
 unfolding withSession sessionOf
@@ -101,21 +101,25 @@ few-entries ids (t ∷ ts) h = few-entries (withEntry ids t) ts (few-id ids (idO
 report-sized : (a : Assigned) → AssignedSized a → (v : List ℕ) → AssignedSized (withReport a v)
 unfolding withReport reportOf
 report-sized a s v =
-    record { list = s .list; groups = s .groups; types = s .types; session = s .session; ids = few-entries noIds _ (omega arith); heartbeat = few-entries noIds _ (omega arith) }
+    record { list = s .list; groups = s .groups; types = s .types; session = s .session; ids = few-entries noIds _ (omega arith) }
+
+-- a record of one type is of no other
+pub unlike : (k n m : ℕ) → eqb k n ≡ true → eqb n m ≡ false → eqb k m ≡ false
+unlike k n m e h = rw (eqb-true k n e) h
 
 -- what holds after each record that is read, and without one, holds after any
 pub by-record : (d : Device) (time : Point) (l : Learnt) (n : ℕ) (v : List ℕ) (P : Learnt → Type 0)
     → (eqb n 6 ≡ true → P (redirectNoted d l v)) → (eqb n 7 ≡ true → P (sessionNoted l v)) → (eqb n 13 ≡ true → P (reportNoted l v))
     → (eqb n 55 ≡ true → P (groupNoted l v)) → (eqb n 76 ≡ true → P (validityNoted l v time)) → (eqb n 77 ≡ true → P (signatureNoted l v))
-    → (eqb n 55 ≡ false → P l) → P (noted d time l n v)
+    → (eqb n 13 ≡ false → eqb n 55 ≡ false → P l) → P (noted d time l n v)
 unfolding noted
 by-record d time l n v P redirect session report group validity signature other =
     pick-both P (eqb n 6) _ _ redirect
     (λ _. pick-both P (eqb n 7) _ _ session
     (λ _. pick-both P (eqb n 13) _ _ report
-    (λ _. pick-both P (eqb n 55) _ _ group
-    (λ e. pick-both P (eqb n 76) _ _ validity
-    (λ _. pick-both P (eqb n 77) _ _ signature (λ _. other e))))))
+    (λ e. pick-both P (eqb n 55) _ _ group
+    (λ f. pick-both P (eqb n 76) _ _ validity
+    (λ _. pick-both P (eqb n 77) _ _ signature (λ _. other e f))))))
 
 -- what an acknowledgement says is sized as long as it can be read
 pub record LearntSized (d : Device) (l : Learnt) : Type 0 where
@@ -170,7 +174,6 @@ module _ (d : Device) (k : DeviceSized d) where
               types = with-differ g kind id (a .list) (a .groups) f (a .types);
               session = a .session;
               ids = a .ids;
-              heartbeat = a .heartbeat;
             };
       }))
 
@@ -199,7 +202,7 @@ module _ (d : Device) (k : DeviceSized d) where
   pub noted-sized : (time : Point) (l : Learnt) (n : ℕ) (v : List ℕ) → Learns d l → Learns d (noted d time l n v)
   noted-sized time l n v h =
       by-record d time l n v (Learns d) (λ _. redirect-noted l v h) (λ _. session-noted l v h) (λ _. report-noted l v h) (λ _. group-noted l v h)
-      (λ _. validity-noted l v time h) (λ _. signature-noted l v h) (λ _. h)
+      (λ _. validity-noted l v time h) (λ _. signature-noted l v h) (λ _ _. h)
 
   learnt-sized : (time : Point) (l : Learnt) (ts : List Tlv) → Learns d l → Learns d (learntOf d time l ts)
   unfolding learntOf
@@ -212,35 +215,45 @@ module _ (d : Device) (k : DeviceSized d) where
       let h = learnt-sized time (nothingLearnt r a) (records p) (λ _. record { registration = x; assigned = y }) in
       pick-both (Learns d) (readable p) _ _ (λ _. h) (λ _. marked-sized (learntOf d time (nothingLearnt r a) (records p)) false h)
 
--- an acknowledgement, taken or not
+-- an acknowledgement that is taken was read, and without a redirect to do there is room for its groups
 module _ (l : Learnt) (verdict : ℕ) (required : Bool) (h : isTakable l verdict required ≡ true) where
-  pub takable-readable : l .readable ≡ true
+  takable-readable : l .readable ≡ true
   unfolding isTakable
   takable-readable = both (l .readable) _ h .0
 
-  pub takable-placed : (l .redirected || not (l .«needs_ninth»)) ≡ true
+  takable-placed : l .redirected ≡ false → l .«needs_ninth» ≡ false
   unfolding isTakable
-  takable-placed =
-      both (not (l .expired)) _ (both (not (badlySigned (l .signed) verdict required)) _ (both (l .readable) _ h .1) .1) .1
+  takable-placed e =
+      let p = both (not (l .expired)) _ (both (not (badlySigned (l .signed) verdict required)) _ (both (l .readable) _ h .1) .1) .1 in
+      not-true (l .«needs_ninth») (rw e at p)
 
-module _ (s : State) (sized : Sized s) where
-  taken-sized : (l : Learnt) → LearntSized (s .device) l → Sized (takenBy s l)
-  unfolding takenBy acceptedBy
-  taken-sized l h =
-      pick-both Sized (l .redirected) _ _
-      (λ _. record { device = sized .device; images = sized .images; assigned = sized .assigned; registration = h .registration })
-      (λ _. record {
-        device = sized .device;
-        images = sized .images;
-        assigned = h .assigned;
-        registration = record { url = sized .registration .url; interval = sized .registration .interval };
-      })
+-- what holds of the state as it was, of one that a redirect left and of one that an acceptance left, holds behind any acknowledgement
+module _ (s : State) (id : ℕ) (p : List ℕ) (time : Point) (verdict : ℕ) where
+  abbrev pub learntBy : Learnt
+  learntBy = learntFrom (s .device) (s .registration) (s .assigned) time p
 
-  pub acknowledged-sized : (id : ℕ) (p : List ℕ) (time : Point) (verdict : ℕ) → Sized (acknowledged s id p time verdict)
-  unfolding acknowledged
-  acknowledged-sized id p time verdict =
-      let l : Learnt = learntFrom (s .device) (s .registration) (s .assigned) time p in
-      let h = from-sized (s .device) (sized .device) (s .registration) (s .assigned) time p (sized .registration) (sized .assigned) in
-      pick-both Sized (isAwaited (s .registration) id) _ _
-      (λ _. pick-both Sized (isTakable l verdict (s .device .«signed_responses»)) _ _
-      (λ e. taken-sized l (h (takable-readable l verdict (s .device .«signed_responses») e))) (λ _. sized)) (λ _. sized)
+  pub by-taken : (P : State → Type 0) → P s
+      → (learntBy .readable ≡ true → P (record { device = s .device; images = s .images; assigned = s .assigned; registration = learntBy .registration }))
+      → (learntBy .readable ≡ true → learntBy .«needs_ninth» ≡ false → P (acceptedBy s learntBy))
+      → P (acknowledged s id p time verdict)
+  unfolding acknowledged takenBy
+  by-taken P same redirect accept =
+      let required = s .device .«signed_responses» in
+      pick-both P (isAwaited (s .registration) id) _ _
+      (λ _. pick-both P (isTakable learntBy verdict required) _ _
+      (λ t. let r = takable-readable learntBy verdict required t in
+      pick-both P (learntBy .redirected) _ _ (λ _. redirect r) (λ n. accept r (takable-placed learntBy verdict required t n)))
+      (λ _. same)) (λ _. same)
+
+pub acknowledged-sized : (s : State) (sized : Sized s) (id : ℕ) (p : List ℕ) (time : Point) (verdict : ℕ) → Sized (acknowledged s id p time verdict)
+unfolding acceptedBy
+acknowledged-sized s sized id p time verdict =
+    let h = from-sized (s .device) (sized .device) (s .registration) (s .assigned) time p (sized .registration) (sized .assigned) in
+    by-taken s id p time verdict Sized sized
+    (λ r. record { device = sized .device; images = sized .images; assigned = sized .assigned; registration = h r .registration })
+    (λ r _. record {
+      device = sized .device;
+      images = sized .images;
+      assigned = h r .assigned;
+      registration = record { url = sized .registration .url; interval = sized .registration .interval };
+    })

@@ -2,13 +2,12 @@
 use Prim.Native.Nat.{ℕ}
 use mathlib.Core.Path.{_≡_, refl, sym, _∙_}
 use mathlib.Core.List.{List, [], _∷_}
-use mathlib.Core.Bool.{Bool, true, false, not, _||_, true≢false}
+use mathlib.Core.Bool.{Bool, true, false, not, true≢false}
 use mathlib.Core.Logic.{_⊎_, inl, inr}
 use mathlib.Core.Option.{Option, none, some}
-use borrow.Author.Tests.{not-true}
 use lib.Dec.{eqb, leb}
 use lib.ListN.{drop}
-use Rattle.ack.specs.Take.{isAwaited, isTakable, acceptedBy, takenBy, acknowledged}
+use Rattle.ack.specs.Take.{isAwaited, acceptedBy, acknowledged}
 use Rattle.buffer.proofs.Tests.{pick-both}
 use Rattle.class.specs.Class.{classOf}
 use Rattle.class.specs.declared.Class.{Class}
@@ -42,7 +41,7 @@ use Rattle.calls.specs.Datagram.{Call, Effect, refusal, servedAs, served
 use Rattle.calls.specs.Groups.{idHeld, idAfter, ByType, Nine, GroupsByType}
 use Rattle.calls.specs.Made.{Made}
 use Rattle.calls.specs.Own.{Sending, sending, sendingIf, roundOf, reports, reportOf}
-use Rattle.calls.proofs.AckSizes.{by-record, takable-readable, takable-placed}
+use Rattle.calls.proofs.AckSizes.{by-record, by-taken}
 use Rattle.calls.proofs.Sizes.{made-sized}
 use Rattle.calls.proofs.AckGroups.{from-moves}
 use Rattle.calls.proofs.AckNinth.{from-ninth}
@@ -69,57 +68,41 @@ module _ (d : Device) (time : Point) where
   unfolding redirectNoted redirected sessionNoted reportNoted groupNoted withGroup validityNoted signatureNoted
   noted-unaccepted l k v h =
       by-record d time l k v Unaccepted (λ _. follow-unaccepted (l .registration) (urlIn v) _ h) (λ _. h) (λ _. h)
-      (λ _. grouped-unaccepted l (groupOf v .kind) (groupOf v .id) h) (λ _. h) (λ _. h) (λ _. h)
+      (λ _. grouped-unaccepted l (groupOf v .kind) (groupOf v .id) h) (λ _. h) (λ _. h) (λ _ _. h)
 
   learnt-unaccepted : (l : Learnt) (ts : List Tlv) → Unaccepted l → Unaccepted (learntOf d time l ts)
   unfolding learntOf
   learnt-unaccepted l [] h = h
   learnt-unaccepted l (t ∷ ts) h = learnt-unaccepted (noted d time l (t .kind) (t .value)) ts (noted-unaccepted l (t .kind) (t .value) h)
 
-  from-unaccepted : (r : Registration) (a : Assigned) (p : List ℕ) → r .accepted ≡ false → Unaccepted (learntFrom d r a time p)
+  pub from-unaccepted : (r : Registration) (a : Assigned) (p : List ℕ) → r .accepted ≡ false → Unaccepted (learntFrom d r a time p)
   unfolding learntFrom
   from-unaccepted r a p h =
       let x = learnt-unaccepted (nothingLearnt r a) (records p) h in
       pick-both Unaccepted (readable p) _ _ (λ _. x) (λ _. x)
 
 -- an acknowledgement
-roomy : (redirected ninth : Bool) → (redirected || not ninth) ≡ true → redirected ≡ false → ninth ≡ false
-roomy redirected ninth h e = not-true ninth (rw e at h)
-
 module _ (s : State) (id : ℕ) (p : List ℕ) (time : Point) (verdict : ℕ) where
-  abbrev learnt : Learnt
-  learnt = learntFrom (s .device) (s .registration) (s .assigned) time p
-
   abbrev Regroups : State → Type 0
   Regroups x = x .registration .accepted ≡ true → ByType (s .assigned .groups) (x .assigned .groups) p
 
   accepted : Made s → s .registration .accepted ≡ false → Regroups (acknowledged s id p time verdict)
-  unfolding acknowledged takenBy acceptedBy
+  unfolding acceptedBy
   accepted made unaccepted =
       let sized = made-sized s made in
-      let kept : Regroups s = λ e. absurd (true≢false (sym e ∙ unaccepted)) in
       let moves =
       from-moves (s .device) time (s .registration) (s .assigned) p (sized .device)
       (λ _. record { registration = sized .registration; assigned = sized .assigned }) in
-      pick-both Regroups (isAwaited (s .registration) id) _ _
-      (λ _. pick-both Regroups (isTakable learnt verdict (s .device .«signed_responses»)) _ _
-      (λ t. pick-both Regroups (learnt .redirected) _ _
+      by-taken s id p time verdict Regroups (λ e. absurd (true≢false (sym e ∙ unaccepted)))
       (λ _ e. absurd (true≢false (sym e ∙ from-unaccepted (s .device) time (s .registration) (s .assigned) p unaccepted)))
-      (λ n _. let required = s .device .«signed_responses» in
-      let x = moves (takable-readable learnt verdict required t) (roomy (learnt .redirected) (learnt .«needs_ninth») (takable-placed learnt verdict required t) n) in
-      record { ids = x .ids; count = x .count; places = x .places }))
-      (λ _. kept)) (λ _. kept)
+      (λ r n _. let x = moves r n in record { ids = x .ids; count = x .count; places = x .places })
 
   abbrev Leaves : State → Type 0
   Leaves x = x .registration .accepted ≡ false → x .assigned ≡ s .assigned
 
   leaves : Leaves (acknowledged s id p time verdict)
-  unfolding acknowledged takenBy acceptedBy
-  leaves =
-      pick-both Leaves (isAwaited (s .registration) id) _ _
-      (λ _. pick-both Leaves (isTakable learnt verdict (s .device .«signed_responses»)) _ _
-      (λ _. pick-both Leaves (learnt .redirected) _ _ (λ _ _. refl) (λ _ e. absurd (true≢false e)))
-      (λ _ _. refl)) (λ _ _. refl)
+  unfolding acceptedBy
+  leaves = by-taken s id p time verdict Leaves (λ _. refl) (λ _ _. refl) (λ _ _ e. absurd (true≢false e))
 
   unaccepted : (s .registration .accepted ≡ true) ⊎ (acknowledged s id p time verdict .registration .accepted ≡ false)
       → acknowledged s id p time verdict .assigned ≡ s .assigned
@@ -195,6 +178,6 @@ groups-by-type =
           λ s out store time.
           own-leaves s (roundTaken (s .device) (s .registration)) (ownRefusal out store (not (s .registration .accepted)) 8) (registrationSent s store time);
       reported =
-          λ s out store time which. own-leaves s (idTaken (s .registration)) (ownRefusal out store (reports s which) 9) (reportSent s store time which);
+          λ s out store time which. own-leaves s (idTaken (s .registration)) (ownRefusal out store (reports s which) 9) (reportSent s store time);
       booted = λ s. refl;
     }

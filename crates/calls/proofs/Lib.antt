@@ -5,5 +5,6 @@ pub mod AckGroups
 pub mod AckNinth
 pub mod Sizes
 pub mod Groups
+pub mod Reports
 pub mod Complete
 pub mod Merges

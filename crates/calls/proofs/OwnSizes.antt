@@ -68,4 +68,4 @@ pub report-sized : (s : State) (out : ℕ) (store : List ℕ) (time : Point) (wh
 unfolding reportOf
 report-sized s out store time which k =
     sent-sized s k (idTaken (s .registration)) (taken-sized (s .device) (s .registration) (k .registration))
-    (ownRefusal out store (reports s which) 9) (reportSent s store time which)
+    (ownRefusal out store (reports s which) 9) (reportSent s store time)

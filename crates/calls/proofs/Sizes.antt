@@ -105,7 +105,7 @@ module _ (hw vendor running url : List ℕ) (s : Settings) where
               pending = refl;
               backup = refl;
             };
-        assigned = record { list = refl; groups = omega arith; types = λ i j h k. absurd (omega arith); session = omega arith; ids = omega arith; heartbeat = omega arith };
+        assigned = record { list = refl; groups = omega arith; types = λ i j h k. absurd (omega arith); session = omega arith; ids = omega arith };
         registration = record { url = within-told 1 (length url) 128 (c .1); interval = (omega arith, up) };
       }
 

@@ -61,14 +61,13 @@ pub record ImagesSized (d : Device) (i : Images) : Type 0 where
   pub pending : length (i .pending .hash) ≡ 32
   pub backup : length (i .backup .bytes) ≡ 32
 
--- at most 8 groups in an array of 8, no two of one type; session id 64, each report list 32
+-- at most 8 groups in an array of 8, no two of one type; session id 64, the report's list 32
 pub record AssignedSized (a : Assigned) : Type 0 where
   pub list : length (a .groups .list) ≡ 8
   pub groups : a .groups .count ≤ 8
   pub types : TypesDiffer (a .groups)
   pub session : a .session .len ≤ 64
   pub ids : a .ids .count ≤ 32
-  pub heartbeat : a .«heartbeat_ids» .count ≤ 32
 
 -- URL 128; the interval between the smallest and the largest
 pub record RegistrationSized (d : Device) (r : Registration) : Type 0 where

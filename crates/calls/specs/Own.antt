@@ -14,7 +14,6 @@ use Rattle.schedule.specs.declared.Interval.{Interval}
 use Rattle.schedule.specs.declared.Interval.the-variants.{Every, Absent}
 use Rattle.schedule.specs.declared.Length.{Length}
 use Rattle.schedule.specs.declared.Point.{Point}
-use Rattle.state.specs.declared.Assigned.{Assigned}
 use Rattle.state.specs.declared.Registration.{Registration}
 use Rattle.state.specs.declared.State.{State}
 
@@ -54,19 +53,15 @@ backoffIn s random = backoffOf (s .registration .interval) random
 unfoldable pub restIn : State → ℕ → Length
 restIn s random = restOf (s .registration .interval) (backoffIn s random)
 
--- a report's interval
-unfoldable pub intervalOf : Assigned → Report → Interval
-intervalOf a Primary = a .interval
-intervalOf a Heartbeat = a .heartbeat
-
 unfoldable pub isPositive : Interval → Bool
 isPositive (Every l) = not (eqb (l .0) 0)
 isPositive Absent = false
 
--- refusal 9: no session, no acceptance, or its interval absent or 0
+-- refusal 9: no session, no acceptance, or its interval absent or 0; document 02, Q-10: any heartbeat report
 unfoldable pub reports : State → Report → Bool
-reports s which = s .assigned .«in_session» && (s .registration .accepted && isPositive (intervalOf (s .assigned) which))
+reports s Primary = s .assigned .«in_session» && (s .registration .accepted && isPositive (s .assigned .interval))
+reports s Heartbeat = false
 
 unfoldable pub reportOf : State → ℕ → List ℕ → Point → Report → Sending
 reportOf s out store time which =
-    sendingIf s (idTaken (s .registration)) (ownRefusal out store (reports s which) 9) (reportSent s store time which)
+    sendingIf s (idTaken (s .registration)) (ownRefusal out store (reports s which) 9) (reportSent s store time)

@@ -4,8 +4,6 @@ mod values;
 
 pub use rows::GROUP_ID;
 pub use rows::GROUP_TYPE;
-pub use rows::HEARTBEAT_INTERVAL;
-pub use rows::HEARTBEAT_TLV_IDS;
 pub use rows::IMAGE_FILE_HASH;
 pub use rows::IMAGE_INDEX;
 pub use rows::IMAGE_LOAD_TIME;

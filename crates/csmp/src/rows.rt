@@ -18,10 +18,6 @@ pub const INTERVAL: u32 = 1;
 
 pub const TLV_IDS: u32 = 2;
 
-pub const HEARTBEAT_INTERVAL: u32 = 3;
-
-pub const HEARTBEAT_TLV_IDS: u32 = 4;
-
 // Of a group.
 pub const GROUP_TYPE: u32 = 1;
 
@@ -56,8 +52,8 @@ pub fn report_subscribe() -> [u32; 12]
     [
         INTERVAL, UINT32, 0,
         TLV_IDS, STRINGS, 0,
-        HEARTBEAT_INTERVAL, UINT32, 0,
-        HEARTBEAT_TLV_IDS, STRINGS, 0,
+        3, UINT32, 0,
+        4, STRINGS, 0,
     ]
 }
 

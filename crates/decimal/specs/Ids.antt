@@ -1,4 +1,4 @@
--- Lists of ids held by value, document 01, "Sizes": each report list 32 ids; step d: 1 to 32 ids.
+-- Lists of ids held by value, document 01, "Sizes": a report list 32 ids; step d: 1 to 32 ids.
 use Prim.Native.Nat.{ℕ, _+_}
 use mathlib.Core.List.{List}
 use lib.ListN.{set, take, replicate}

@@ -20,13 +20,11 @@ use Rattle.decode_report.specs.Report.{listedIn, few, reportOf}
 -- 13
 module _ (v : List ℕ) {table cells left : List ℕ} {r : Reading} (p : table ≡ rowsOf reportSubscribe) (q : cells ≡ cellsOf reportSubscribe (noneFound reportSubscribe))
     (x : Scanned (readInto table cells v) r left) where
-  pub report-by : {reading : Reading} {interval heartbeat : Interval} {ids heartbeat-ids : Ids}
+  pub report-by : {reading : Reading} {interval : Interval} {ids : Ids}
       → reading ≡ limited r (leb (getD left 3 0) 32 && leb (getD left 9 0) 32)
       → interval ≡ intervalOf (numberOf (getD left 0 0) (getD left 1 0))
-      → ids ≡ listedIn v 2
-      → heartbeat ≡ intervalOf (numberOf (getD left 6 0) (getD left 7 0))
-      → heartbeat-ids ≡ listedIn v 4
-      → record { reading = reading; interval = interval; ids = ids; heartbeat = heartbeat; «heartbeat_ids» = heartbeat-ids } ≡ reportOf v
+      → ids ≡ listedIn v
+      → record { reading = reading; interval = interval; ids = ids } ≡ reportOf v
   unfolding reportOf few listedIn readBy valuesOf cellsOf heldCells
-  report-by e0 e1 e2 e3 e4 =
-      rw (e0, told-by reportSubscribe report-subscribe-formed v p q x, e1, e2, e3, e4, found-by reportSubscribe report-subscribe-formed v p q x)
+  report-by e0 e1 e2 =
+      rw (e0, told-by reportSubscribe report-subscribe-formed v p q x, e1, e2, found-by reportSubscribe report-subscribe-formed v p q x)

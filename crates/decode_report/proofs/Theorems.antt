@@ -12,6 +12,7 @@ use lib.Seq.{take-suc-set, append-snoc}
 use Rattle.buffer.specs.Stretch.{fits, stretch}
 use Rattle.buffer.specs.Walk.{walkFor, walk}
 use Rattle.varint.specs.Varint.{more, spelt, varintAt, ofStretch, ofLength, delimitedAt}
+use Rattle.protobuf.specs.Write.{each}
 use Rattle.protobuf.specs.Field.{numbered, held as bytesHeld, spanned, contentAt, ofTag, fieldAt, fieldStep, fieldsFrom}
 use Rattle.message.specs.Read.{wireOf, countMore, numberOf, flagOf, placeOf}
 use Rattle.buffer.proofs.Tests.{split, both}
@@ -23,7 +24,7 @@ use Rattle.decimal.specs.declared.Id.the-variants.{Given as Spells, Nothing}
 use Rattle.decimal.specs.declared.Ids.{Ids}
 use Rattle.tables.specs.Found.{Cell, noneHeld, noneFound, placed, cellWith, eachIn, heldWith, foundWith, foundIn}
 use Rattle.tables.specs.Statements.{counted}
-use Rattle.tables.specs.Table.{contents, alike, valueOf, valuesOf, readable, readBy}
+use Rattle.tables.specs.Table.{contents, alike, valueOf, valuesOf, heldReadable, fieldReadable, allReadable, readableTo, readable, readBy}
 use Rattle.tables.proofs.TableTells.{tells}
 use Rattle.csmp.specs.Tables.{reportSubscribe}
 use Rattle.csmp.specs.Values.{intervalOf, intervalNumber}
@@ -71,10 +72,8 @@ report-read v =
       reading = e;
       interval = interval-back _ ∙ t .0;
       ids = λ h. listed _ (leb-true _ 32 (both (leb (length (r .1 .0)) 32) _ (both (readable reportSubscribe v) _ (sym e ∙ h) .1) .0));
-      heartbeat = interval-back _ ∙ t .1 .1 .0;
-      heartbeatIds = λ h. listed _ (leb-true _ 32 (both (leb (length (r .1 .0)) 32) _ (both (readable reportSubscribe v) _ (sym e ∙ h) .1) .1));
     }
 
 pub samples-read : Samples
-unfolding samples reportOf withId withEntry withEntries intervalOf intervalNumber contents alike valueOf valuesOf readBy allDigits digits digitsOf zeroOr idOf pushed noneHeld noneFound placed cellWith eachIn heldWith foundWith foundIn wireOf countMore numberOf flagOf placeOf numbered bytesHeld spanned contentAt ofTag fieldAt fieldStep fieldsFrom more spelt varintAt ofStretch ofLength delimitedAt fits stretch walkFor walk
+unfolding samples each few heldReadable fieldReadable allReadable readableTo readable reportOf withId withEntry withEntries intervalOf intervalNumber contents alike valueOf valuesOf readBy allDigits digits digitsOf zeroOr idOf pushed noneHeld noneFound placed cellWith eachIn heldWith foundWith foundIn wireOf countMore numberOf flagOf placeOf numbered bytesHeld spanned contentAt ofTag fieldAt fieldStep fieldsFrom more spelt varintAt ofStretch ofLength delimitedAt fits stretch walkFor walk
 samples-read = refl

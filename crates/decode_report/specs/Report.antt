@@ -29,26 +29,24 @@ unfoldable pub withEntries : Ids → List (List ℕ) → Ids
 withEntries ids [] = ids
 withEntries ids (t ∷ ts) = withEntries (withEntry ids t) ts
 
--- the ids among the entries of the list of number n: of one field, and of a value
-unfoldable pub withField : List ℕ → ℕ → Ids → Field → Ids
-withField v n ids f = withEntries ids (valueOf strings n (contentOf v f ∷ []))
+-- the ids among the entries of tlvid, field 2: of one field, and of a value
+unfoldable pub withField : List ℕ → Ids → Field → Ids
+withField v ids f = withEntries ids (valueOf strings 2 (contentOf v f ∷ []))
 
-unfoldable pub listedIn : List ℕ → ℕ → Ids
-listedIn v n = withEntries noIds (valueOf strings n (contents v))
+unfoldable pub listedIn : List ℕ → Ids
+listedIn v = withEntries noIds (valueOf strings 2 (contents v))
 
--- a list has at most 32 entries, ignored ones counted
+-- a list has at most 32 entries, ignored ones counted; document 02, Q-10: the heartbeat's list is checked, then not kept
 unfoldable pub few : Cell → Bool
 few c = leb (c .count) 32
 
--- interval, tlvid, intervalHeartBeat, tlvidHeartBeat
+-- the rows of the table are interval, tlvid, intervalHeartBeat, tlvidHeartBeat; told are the first two
 abbrev pub reportBy : Reading → Found reportSubscribe → Values reportSubscribe → Report
 reportBy r f t =
     record {
       reading = limited r (few (f .1 .0 .0) && few (f .1 .1 .1 .0 .0));
       interval = intervalOf (numberIn (f .0 .0));
       ids = withEntries noIds (t .1 .0);
-      heartbeat = intervalOf (numberIn (f .1 .1 .0 .0));
-      «heartbeat_ids» = withEntries noIds (t .1 .1 .1 .0);
     }
 
 unfoldable pub reportOf : List ℕ → Report

@@ -11,13 +11,11 @@ ghost use lib.Dec.{leb};
 ghost use Prim.Native.Nat.{_≤_};
 ghost use Rattle.decode_report.specs.Report.{withEntry, withField, listedIn, reportOf};
 
-// ReportSubscribe, record 13: the primary report and the heartbeat.
+// ReportSubscribe, record 13: the primary report. The heartbeat's fields are checked, but not told.
 pub struct Report {
     pub reading: Reading,
     pub interval: Interval,
     pub ids: Ids,
-    pub heartbeat: Interval,
-    pub heartbeat_ids: Ids,
 }
 
 // One entry more of a list of ids; what is no id is ignored.
@@ -30,12 +28,12 @@ fn add_entry(ids: Ids, text: &[u8]) -> Ids
     decimal::push(ids, id)
 }
 
-// The same for a field, where it is an entry of the list `number`.
-fn add_field(ids: Ids, v: &[u8], f: Field, number: u32) -> Ids
+// The same for a field, where it is an entry of tlvid.
+fn add_field(ids: Ids, v: &[u8], f: Field) -> Ids
     requires { ⌜ (f .start ≤ f .end) × (f .end ≤ length (now v)) ⌝ }
-    ensures { λ r. ⌜ r ≡ withField (now (v .entry)) number ids f ⌝ }
+    ensures { λ r. ⌜ r ≡ withField (now (v .entry)) ids f ⌝ }
 {
-    if f.number != number {
+    if f.number != csmp::TLV_IDS {
         return ids;
     }
     if f.wire != 2 {
@@ -46,9 +44,9 @@ fn add_field(ids: Ids, v: &[u8], f: Field, number: u32) -> Ids
     add_entry(ids, &v[start..end])
 }
 
-// The ids among the entries of the list `number`, in order.
-fn read_ids(v: &[u8], number: u32) -> Ids
-    ensures { λ r. ⌜ r ≡ listedIn (now (v .entry)) number ⌝ }
+// The ids among the entries of tlvid, in order.
+fn read_ids(v: &[u8]) -> Ids
+    ensures { λ r. ⌜ r ≡ listedIn (now (v .entry)) ⌝ }
 {
     let mut ids = decimal::no_ids();
     let mut at = 0;
@@ -56,7 +54,7 @@ fn read_ids(v: &[u8], number: u32) -> Ids
         let Step::Field(f) = protobuf::field_at(v, at) else {
             return ids;
         };
-        ids = add_field(ids, v, f, number);
+        ids = add_field(ids, v, f);
         at = f.end;
     }
     ids
@@ -76,16 +74,12 @@ pub fn read_report(v: &[u8]) -> Report
     let table = csmp::report_subscribe();
     let told = message::read(v, &table, &mut cells);
     let interval = csmp::interval(message::number(cells[0], cells[1]));
-    let heartbeat = csmp::interval(message::number(cells[6], cells[7]));
     let few = buffer::both(is_few(cells[3]), is_few(cells[9]));
     let reading = message::limit(told, few);
-    let ids = read_ids(v, csmp::TLV_IDS);
-    let heartbeat_ids = read_ids(v, csmp::HEARTBEAT_TLV_IDS);
+    let ids = read_ids(v);
     Report {
         reading,
         interval,
         ids,
-        heartbeat,
-        heartbeat_ids,
     }
 }

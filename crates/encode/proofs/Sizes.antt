@@ -11,7 +11,7 @@ use Rattle.protobuf.proofs.SizeLaws.{take-most}
 use Rattle.schedule.specs.declared.Interval.{Interval}
 use Rattle.schedule.specs.declared.Point.{Point}
 use Rattle.tables.specs.Table.{strings, written}
-use Rattle.tables.proofs.TableSizes.{stop, field, delimited-most, number, no-number, no-string}
+use Rattle.tables.proofs.TableSizes.{stop, field, delimited-most, number, no-number, no-string, no-strings}
 use Rattle.varint.proofs.Laws.{varint-1, delimited-length}
 use Rattle.encode.specs.Write.{reportRecord, timeRecord, groupRecord}
 use Rattle.encode.proofs.WriteLaws.{decimal-most}
@@ -35,14 +35,11 @@ module _ (n : ℕ) (tag : n < 16) where
   unfolding written
   ids k m list h = let g = ids-length (take m list) in omega (arith, take-most m k list h)
 
-pub report-most : (i : Interval) (a : Ids) (h : Interval) (b : Ids) → length (a .list) ≡ 32 → length (b .list) ≡ 32
-    → length (reportRecord i a h b) ≤ 793
+pub report-most : (i : Interval) (a : Ids) → length (a .list) ≡ 32 → length (reportRecord i a) ≤ 398
 unfolding reportRecord
-report-most i a h b k l =
+report-most i a h =
     delimited-most 13
-    (field (number 1 (omega arith) _)
-    (field (ids 2 (omega arith) 32 (a .count) (a .list) k)
-    (field (number 3 (omega arith) _) (field (ids 4 (omega arith) 32 (b .count) (b .list) l) stop))))
+    (field (number 1 (omega arith) _) (field (ids 2 (omega arith) 32 (a .count) (a .list) h) (field (no-number 3) (field (no-strings 4) stop))))
     (omega arith)
     (omega arith)
 

@@ -81,7 +81,7 @@ texts-length n (id ∷ ids) =
     let k : length (texts n ids) ≤ 30 * length ids = texts-length n ids in
     omega (arith, length-append (bytesField n (decimal id)) (texts n ids))
 
-pub texts-most : (n k m : ℕ) (ids list : List ℕ) → ids ≡ take m list → length list ≡ k → length (texts n ids) ≤ 30 * k
+texts-most : (n k m : ℕ) (ids list : List ℕ) → ids ≡ take m list → length list ≡ k → length (texts n ids) ≤ 30 * k
 texts-most n k m ids list e h = rw e (let g = take-most m k list h in omega (arith, texts-length n (take m list)))
 
 -- such a list by the table's row

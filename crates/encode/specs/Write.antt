@@ -1,6 +1,6 @@
 -- The records that the agent writes: values by the tables, document 01, "Records and fields" and "Requests".
 use Prim.Native.Nat.{ℕ}
-use mathlib.Core.List.{List, map}
+use mathlib.Core.List.{List, [], map}
 use mathlib.Core.Option.{none, some}
 use lib.ListN.{take}
 use Rattle.decimal.specs.Decimal.{decimal}
@@ -29,12 +29,9 @@ indexRecord i = recordBytes 1 (writeBy Tables.tlvIndex (map decimal (take (i .co
 unfoldable pub sessionRecord : SessionId → List ℕ
 sessionRecord s = recordBytes 7 (writeBy Tables.session (some (take (s .len) (s .bytes)), tt))
 
--- 13
-unfoldable pub reportRecord : Interval → Ids → Interval → Ids → List ℕ
-reportRecord i ids h hids =
-    recordBytes 13
-    (writeBy Tables.reportSubscribe
-    (numberGiven (intervalNumber i), (map decimal (held ids), (numberGiven (intervalNumber h), (map decimal (held hids), tt)))))
+-- 13: interval and tlvid; document 02, Q-10: the heartbeat is not shown
+unfoldable pub reportRecord : Interval → Ids → List ℕ
+reportRecord i ids = recordBytes 13 (writeBy Tables.reportSubscribe (numberGiven (intervalNumber i), (map decimal (held ids), (none, ([], tt)))))
 
 -- 18: posix only
 unfoldable pub timeRecord : Point → List ℕ

@@ -63,39 +63,19 @@ pub fn put_session(out: &mut [u8], at: usize, id: SessionId) -> usize
     tlv::put(out, at, 7, &value[..n])
 }
 
-// ReportSubscribe, record 13.
-pub fn put_report(
-    out: &mut [u8],
-    at: usize,
-    interval: Interval,
-    ids: Ids,
-    heartbeat: Interval,
-    heartbeat_ids: Ids,
-) -> usize
-    ensures { λ r. ⌜ Put (now (out .entry)) at (reportRecord interval ids heartbeat «heartbeat_ids») (now (out .exit)) r ⌝ }
+// ReportSubscribe, record 13, without the heartbeat's fields.
+pub fn put_report(out: &mut [u8], at: usize, interval: Interval, ids: Ids) -> usize
+    ensures { λ r. ⌜ Put (now (out .entry)) at (reportRecord interval ids) (now (out .exit)) r ⌝ }
 {
-    let mut value = [0u8; 2048];
-    let primary = ids.list;
-    let beat = heartbeat_ids.list;
+    let mut value = [0u8; 1024];
+    let list = ids.list;
     let a = protobuf::put_given(
         &mut value,
         0,
         csmp::INTERVAL,
         csmp::interval_number(interval),
     );
-    let b = put_texts(&mut value, a, csmp::TLV_IDS, front_ids(&primary, ids.count));
-    let c = protobuf::put_given(
-        &mut value,
-        b,
-        csmp::HEARTBEAT_INTERVAL,
-        csmp::interval_number(heartbeat),
-    );
-    let n = put_texts(
-        &mut value,
-        c,
-        csmp::HEARTBEAT_TLV_IDS,
-        front_ids(&beat, heartbeat_ids.count),
-    );
+    let n = put_texts(&mut value, a, csmp::TLV_IDS, front_ids(&list, ids.count));
     tlv::put(out, at, 13, &value[..n])
 }
 

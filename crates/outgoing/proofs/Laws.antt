@@ -14,17 +14,14 @@ use Rattle.buffer.proofs.Stretches.{fits-true, fits-false}
 use Rattle.coap.specs.Write.{registrationHead, reportHead}
 use Rattle.encode.specs.Write.{sessionRecord, timeRecord}
 use Rattle.decimal.specs.Ids.{held}
-use Rattle.decimal.specs.declared.Ids.{Ids}
 use Rattle.schedule.specs.declared.Point.{Point}
 use Rattle.state.specs.Groups.{heldPairs}
 use Rattle.state.specs.declared.Assigned.{Assigned}
 use Rattle.state.specs.declared.State.{State}
 use Rattle.own.specs.Own.{reportShown, groupsShown, ownRecords}
-use Rattle.outgoing.specs.Sent.{sendable, sessionShown, deviceId, knownTo, registrationSent, idsOf, reportSent}
+use Rattle.outgoing.specs.Sent.{sendable, sessionShown, deviceId, knownTo, registrationSent, reportSent}
 use Rattle.copy.specs.Shown.{copies, shownAll}
 use Rattle.copy.specs.declared.Choice.the-variants.{Only, Except}
-use Rattle.outgoing.specs.declared.Report.{Report}
-use Rattle.outgoing.specs.declared.Report.the-variants.{Primary, Heartbeat}
 
 -- the session, where one is held
 module _ {out : List ℕ} {at : ℕ} (a : Assigned) where
@@ -35,16 +32,6 @@ module _ {out : List ℕ} {at : ℕ} (a : Assigned) where
   pub session-put : {left : List ℕ} {n : ℕ} → not (a .«in_session») ≡ false → Put out at (sessionRecord (a .session)) left n → Appended out at (sessionShown a) left n
   unfolding sessionShown
   session-put e p = rw (not-false (a .«in_session») e) (appended-put p)
-
--- the list of a report
-module _ (a : Assigned) (which : Report) where
-  pub ids-primary : which ≡ Primary → a .ids ≡ idsOf a which
-  unfolding idsOf
-  ids-primary e = rw e
-
-  pub ids-heartbeat : which ≡ Heartbeat → a .«heartbeat_ids» ≡ idsOf a which
-  unfolding idsOf
-  ids-heartbeat e = rw e
 
 -- what a registration tells behind DeviceID
 pub known-join : (s : State) (store : List ℕ) (time : Point) {out w x y z left : List ℕ} {at a b c d n : ℕ} → Put out at (timeRecord time) w a
@@ -134,16 +121,16 @@ module _ (s : State) (store : List ℕ) (time : Point) {zeros w x : List ℕ} {a
       let k = knownTo s store time in
       rw (ne-eqb (length d) 0 (moved d l refl p q e)) (sent-put (i ++ (d ++ k)) l (appended-join i (d ++ k) (appended-put p) (appended-join d k q r)) t)
 
-pub report-sent : (s : State) (store : List ℕ) (time : Point) (which : Report) {ids : Ids} {own zeros w x y body : List ℕ} {a b c end : ℕ} {out left : List ℕ} {n : ℕ} → length zeros ≡ 1280
-    → ids ≡ idsOf (s .assigned) which → own ≡ ownRecords s time → Put zeros 0 (reportHead (s .registration .«message_id»)) w a
-    → Appended w a (sessionShown (s .assigned)) x b → Put x b (timeRecord time) y c → Appended y c (shownAll store own (held ids)) body end
-    → Put out 0 (pick (ltb (length body) end) [] (take end body)) left n → Put out 0 (reportSent s store time which) left n
+pub report-sent : (s : State) (store : List ℕ) (time : Point) {own zeros w x y body : List ℕ} {a b c end : ℕ} {out left : List ℕ} {n : ℕ} → length zeros ≡ 1280
+    → own ≡ ownRecords s time → Put zeros 0 (reportHead (s .registration .«message_id»)) w a
+    → Appended w a (sessionShown (s .assigned)) x b → Put x b (timeRecord time) y c → Appended y c (shownAll store own (held (s .assigned .ids))) body end
+    → Put out 0 (pick (ltb (length body) end) [] (take end body)) left n → Put out 0 (reportSent s store time) left n
 unfolding reportSent
-report-sent s store time which {ids} {own} l i o p q r t u =
+report-sent s store time {own} l o p q r t u =
     let h = reportHead (s .registration .«message_id») in
     let d = sessionShown (s .assigned) in
-    let k = shownAll store own (held ids) in
-    rw (← i, ← o)
+    let k = shownAll store own (held (s .assigned .ids)) in
+    rw (← o)
     (sent-put (h ++ (d ++ (timeRecord time ++ k))) l
     (appended-join h (d ++ (timeRecord time ++ k)) (appended-put p) (appended-join d (timeRecord time ++ k) q (appended-join (timeRecord time) k (appended-put r) t)))
     u)
@@ -168,6 +155,6 @@ registration-short s store time = go (eqb (length (deviceId store)) 0)
     go true = omega arith
     go false = sendable-short all
 
-pub report-short : (s : State) (store : List ℕ) (time : Point) (which : Report) → length (reportSent s store time which) ≤ 1280
+pub report-short : (s : State) (store : List ℕ) (time : Point) → length (reportSent s store time) ≤ 1280
 unfolding reportSent
-report-short s store time which = sendable-short _
+report-short s store time = sendable-short _

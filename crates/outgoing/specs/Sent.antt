@@ -7,7 +7,6 @@ use Rattle.buffer.specs.Pick.{pick}
 use Rattle.coap.specs.Write.{registrationHead, reportHead}
 use Rattle.encode.specs.Write.{sessionRecord, timeRecord}
 use Rattle.decimal.specs.Ids.{held}
-use Rattle.decimal.specs.declared.Ids.{Ids}
 use Rattle.schedule.specs.declared.Point.{Point}
 use Rattle.state.specs.Groups.{heldPairs}
 use Rattle.state.specs.declared.Assigned.{Assigned}
@@ -15,8 +14,6 @@ use Rattle.state.specs.declared.State.{State}
 use Rattle.own.specs.Own.{reportShown, groupsShown, ownRecords}
 use Rattle.copy.specs.Shown.{copies, shownAll}
 use Rattle.copy.specs.declared.Choice.the-variants.{Only, Except}
-use Rattle.outgoing.specs.declared.Report.{Report}
-use Rattle.outgoing.specs.declared.Report.the-variants.{Primary, Heartbeat}
 
 -- own datagram would pass 1,280: nothing is sent
 unfoldable pub sendable : List ℕ → List ℕ
@@ -42,14 +39,9 @@ registrationSent s store time =
     pick (eqb (length (deviceId store)) 0) []
     (sendable (registrationHead (s .registration .«message_id») ++ (deviceId store ++ knownTo s store time)))
 
--- the list of a report
-unfoldable pub idsOf : Assigned → Report → Ids
-idsOf a Primary = a .ids
-idsOf a Heartbeat = a .«heartbeat_ids»
-
 -- a report's NON POST to /c: session, CurrentTime, then the list's ids as GET takes them
-unfoldable pub reportSent : State → List ℕ → Point → Report → List ℕ
-reportSent s store time which =
+unfoldable pub reportSent : State → List ℕ → Point → List ℕ
+reportSent s store time =
     sendable
     (reportHead (s .registration .«message_id»)
-    ++ (sessionShown (s .assigned) ++ (timeRecord time ++ shownAll store (ownRecords s time) (held (idsOf (s .assigned) which)))))
+    ++ (sessionShown (s .assigned) ++ (timeRecord time ++ shownAll store (ownRecords s time) (held (s .assigned .ids)))))

@@ -26,7 +26,7 @@ module _ {out : List ℕ} {at : ℕ} (a : Assigned) where
   report-not e p = shown-not (a .reporting) _ e p
 
   pub report-put : {left : List ℕ} {n : ℕ} → not (a .reporting) ≡ false
-      → Put out at (reportRecord (a .interval) (a .ids) (a .heartbeat) (a .«heartbeat_ids»)) left n → Appended out at (reportShown a) left n
+      → Put out at (reportRecord (a .interval) (a .ids)) left n → Appended out at (reportShown a) left n
   unfolding reportShown
   report-put e p = shown (a .reporting) _ e p
 
@@ -81,30 +81,29 @@ groups-length (p ∷ l) =
 groups-most : (l : List Pair) (n : ℕ) → length l ≡ 8 → length (groupsShown (take n l)) ≤ 200
 groups-most l n h = let g = groups-length (take n l) in omega (arith, length-take n l)
 
-report-shown-most : (a : Assigned) → length (a .ids .list) ≡ 32 → length (a .«heartbeat_ids» .list) ≡ 32 → length (reportShown a) ≤ 793
+report-shown-most : (a : Assigned) → length (a .ids .list) ≡ 32 → length (reportShown a) ≤ 398
 unfolding reportShown
-report-shown-most a h k = shown-most (a .reporting) _ 793 (report-most (a .interval) (a .ids) (a .heartbeat) (a .«heartbeat_ids») h k)
+report-shown-most a h = shown-most (a .reporting) _ 398 (report-most (a .interval) (a .ids) h)
 
 -- the lengths of the arrays that are shown
 pub record AssignedSized (a : Assigned) : Type 0 where
   pub ids : length (a .ids .list) ≡ 32
-  pub «heartbeat_ids» : length (a .«heartbeat_ids» .list) ≡ 32
   pub groups : length (a .groups .list) ≡ 8
 
-own-most : (s : State) (time : Point) → AssignedSized (s .assigned) → ImagesSized (s .images) → length (ownRecords s time) ≤ 1536
+own-most : (s : State) (time : Point) → AssignedSized (s .assigned) → ImagesSized (s .images) → length (ownRecords s time) ≤ 1152
 unfolding ownRecords
 own-most s time a i =
     let r = reportShown (s .assigned) in
     let g = groupsShown (heldPairs (s .assigned .groups)) in
     let m = imagesShown (s .images) in
-    let h = report-shown-most (s .assigned) (a .ids) (a .«heartbeat_ids») in
+    let h = report-shown-most (s .assigned) (a .ids) in
     let k = groups-most (s .assigned .groups .list) (s .assigned .groups .count) (a .groups) in
     let n = images-most (s .images) i in
     let t = time-most time in
     omega (arith, length-append r (timeRecord time ++ (g ++ m)), length-append (timeRecord time) (g ++ m), length-append g m)
 
 -- all of them, at the front
-pub own-all : (s : State) (time : Point) {out w x y left : List ℕ} {a b c n : ℕ} → length out ≡ 1536 → AssignedSized (s .assigned) → ImagesSized (s .images)
+pub own-all : (s : State) (time : Point) {out w x y left : List ℕ} {a b c n : ℕ} → length out ≡ 1152 → AssignedSized (s .assigned) → ImagesSized (s .images)
     → Appended out 0 (reportShown (s .assigned)) w a → Put w a (timeRecord time) x b
     → Appended x b (groupsShown (heldPairs (s .assigned .groups))) y c → Appended y c (imagesShown (s .images)) left n
     → (n ≤ length left) × (take n left ≡ ownRecords s time)

@@ -12,7 +12,7 @@ use Rattle.state.specs.declared.State.{State}
 
 -- 13, as held
 unfoldable pub reportShown : Assigned → List ℕ
-reportShown a = pick (a .reporting) (reportRecord (a .interval) (a .ids) (a .heartbeat) (a .«heartbeat_ids»)) []
+reportShown a = pick (a .reporting) (reportRecord (a .interval) (a .ids)) []
 
 -- 58 for each group
 unfoldable pub groupsShown : List Pair → List ℕ

@@ -19,9 +19,7 @@ pub fn put_subscription(a: Assigned, out: &mut [u8], at: usize) -> usize
     }
     let interval = a.interval;
     let ids = a.ids;
-    let heartbeat = a.heartbeat;
-    let heartbeat_ids = a.heartbeat_ids;
-    encode::put_report(out, at, interval, ids, heartbeat, heartbeat_ids)
+    encode::put_report(out, at, interval, ids)
 }
 
 // GroupInfo for each group.
@@ -43,7 +41,7 @@ pub fn put_groups(groups: Groups, out: &mut [u8], at: usize) -> usize
 }
 
 // All of them, at the front of a buffer that has room.
-pub fn put_own(state: State, time: Point, out: &mut [u8; 1536]) -> usize
+pub fn put_own(state: State, time: Point, out: &mut [u8; 1152]) -> usize
     ensures { λ r. ⌜ (r ≤ length (now (out .exit))) × (take r (now (out .exit)) ≡ ownRecords state time) ⌝ }
 {
     let a = put_subscription(state.assigned, out, 0);

@@ -1,6 +1,6 @@
 -- Laws of the calls that send a datagram of the agent's own.
 use Prim.Native.Nat.{ℕ, _≤_}
-use mathlib.Core.Path.{_≡_, refl, sym, ap, _∙_}
+use mathlib.Core.Path.{_≡_, refl, sym, _∙_}
 use mathlib.Core.List.{List, [], _∷_}
 use mathlib.Core.Bool.{Bool, true, false, not, _&&_, true≢false}
 use native.Mathlib.Omega.{arith}
@@ -10,7 +10,7 @@ use lib.ListN.{length}
 use lib.Seq.{sets}
 use Rattle.buffer.specs.Put.{Put}
 use Rattle.buffer.proofs.Puts.{appended-put, appended-all}
-use Rattle.calls.specs.Own.{Sending, unsent, withRegistration, sending, sendingIf, roundOf, waited, backoffIn, restIn, intervalOf, isPositive, reports, reportOf}
+use Rattle.calls.specs.Own.{Sending, unsent, withRegistration, sending, sendingIf, roundOf, waited, backoffIn, restIn, isPositive, reports, reportOf}
 use Rattle.outgoing.specs.Sent.{registrationSent, reportSent}
 use Rattle.outgoing.specs.declared.Report.{Report}
 use Rattle.outgoing.specs.declared.Report.the-variants.{Primary, Heartbeat}
@@ -25,7 +25,6 @@ use Rattle.schedule.specs.declared.Interval.{Interval}
 use Rattle.schedule.specs.declared.Interval.the-variants.{Every, Absent}
 use Rattle.schedule.specs.declared.Length.{Length}
 use Rattle.schedule.specs.declared.Point.{Point}
-use Rattle.state.specs.declared.Assigned.{Assigned}
 use Rattle.state.specs.declared.Registration.{Registration}
 use Rattle.state.specs.declared.State.{State}
 use Rattle.rounds.specs.Rounds.{SentAs, Rounded}
@@ -141,15 +140,6 @@ module _ (s : State) (out store : List ℕ) (time : Point) (random : ℕ) {n : �
         rounded-sent s random _ (rw (← w) (sending-some s _ n (registrationSent s store time) z (put-filled p f h))) k p (registration-short s store time) g
 
 -- whether a report is due
-module _ (a : Assigned) (which : Report) where
-  pub interval-primary : which ≡ Primary → a .interval ≡ intervalOf a which
-  unfolding intervalOf
-  interval-primary e = rw e
-
-  pub interval-heartbeat : which ≡ Heartbeat → a .heartbeat ≡ intervalOf a which
-  unfolding intervalOf
-  interval-heartbeat e = rw e
-
 module _ (i : Interval) where
   pub positive-none : i ≡ Absent → false ≡ isPositive i
   unfolding isPositive
@@ -164,37 +154,45 @@ all-true true true h g e = e
 all-true true false h g e = absurd (true≢false (sym g))
 all-true false b h g e = absurd (true≢false (sym h))
 
-module _ (s : State) (which : Report) where
-  pub reports-unbound : s .assigned .«in_session» ≡ false → false ≡ reports s which
+module _ (s : State) where
+  pub due-unbound : s .assigned .«in_session» ≡ false → false ≡ reports s Primary
   unfolding reports
-  reports-unbound h = rw h
+  due-unbound h = rw h
 
   module _ (h : s .assigned .«in_session» ≡ true) where
-    pub reports-unaccepted : s .registration .accepted ≡ false → false ≡ reports s which
+    pub due-unaccepted : s .registration .accepted ≡ false → false ≡ reports s Primary
     unfolding reports
-    reports-unaccepted g = rw (h, g)
+    due-unaccepted g = rw (h, g)
 
-    pub reports-by : s .registration .accepted ≡ true → {i : Interval} {b : Bool} → i ≡ intervalOf (s .assigned) which → b ≡ isPositive i → b ≡ reports s which
+    pub due-by : s .registration .accepted ≡ true → {b : Bool} → b ≡ isPositive (s .assigned .interval) → b ≡ reports s Primary
     unfolding reports
-    reports-by g e k = all-true (s .assigned .«in_session») (s .registration .accepted) h g (k ∙ ap isPositive e)
+    due-by g k = all-true (s .assigned .«in_session») (s .registration .accepted) h g k
+
+module _ (s : State) (which : Report) where
+  pub reports-primary : which ≡ Primary → {b : Bool} → b ≡ reports s Primary → b ≡ reports s which
+  reports-primary e k = rw e k
+
+  pub reports-heartbeat : which ≡ Heartbeat → false ≡ reports s which
+  unfolding reports
+  reports-heartbeat e = rw e
 
 -- a report
 module _ (s : State) (out store : List ℕ) (time : Point) (which : Report) {due : Bool} (d : due ≡ reports s which) {n : ℕ} (w : n ≡ ownRefusal (length out) store due 9) {r : Answer} where
   pub report-refused : (n ≡ 0 → ⊥) → r ≡ record { outcome = n; len = 0; state = s } → SentAs (reportOf s (length out) store time which) out r out
   unfolding reportOf
-  report-refused h k = as-unsent _ (rw (← d, ← w) (sending-refused s _ n (reportSent s store time which) h)) k refl
+  report-refused h k = as-unsent _ (rw (← d, ← w) (sending-refused s _ n (reportSent s store time) h)) k refl
 
-  module _ (z : n ≡ 0) {left : List ℕ} {len : ℕ} (p : Put out 0 (reportSent s store time which) left len) where
+  module _ (z : n ≡ 0) {left : List ℕ} {len : ℕ} (p : Put out 0 (reportSent s store time) left len) where
     pub report-10 : len ≡ 0 → r ≡ record { outcome = 10; len = 0; state = s } → SentAs (reportOf s (length out) store time which) out r left
     unfolding reportOf
     report-10 h k =
-        let f = within (length (reportSent s store time which)) (length out) (report-short s store time which) (unrefused (length out) store due 9 n w z) in
-        as-unsent _ (rw (← d, ← w) (sending-none s _ n (reportSent s store time which) z (put-empty p f h))) k (put-same p f h)
+        let f = within (length (reportSent s store time)) (length out) (report-short s store time) (unrefused (length out) store due 9 n w z) in
+        as-unsent _ (rw (← d, ← w) (sending-none s _ n (reportSent s store time) z (put-empty p f h))) k (put-same p f h)
 
     pub report-sent : {t : Registration} → (len ≡ 0 → ⊥) → t ≡ idTaken (s .registration) → r ≡ record { outcome = 0; len = len; state = withRegistration s t }
         → SentAs (reportOf s (length out) store time which) out r left
     unfolding reportOf
     report-sent h e k =
         let g = unrefused (length out) store due 9 n w z in
-        let f = within (length (reportSent s store time which)) (length out) (report-short s store time which) g in
-        as-sent _ (rw (← d, ← w) (sending-some s _ n (reportSent s store time which) z (put-filled p f h))) (rw e at k) p (report-short s store time which) g
+        let f = within (length (reportSent s store time)) (length out) (report-short s store time) g in
+        as-sent _ (rw (← d, ← w) (sending-some s _ n (reportSent s store time) z (put-filled p f h))) (rw e at k) p (report-short s store time) g

@@ -4,12 +4,12 @@ use reply::Answer;
 use schedule::Interval;
 use schedule::Length;
 use schedule::Point;
-use state::Assigned;
 use state::Registration;
 use state::State;
 ghost use mathlib.Core.Path.{_≡_};
 ghost use lib.ListN.{length};
-ghost use Rattle.calls.specs.Own.{withRegistration, roundOf, backoffIn, restIn, intervalOf, isPositive, reports, reportOf};
+ghost use Rattle.calls.specs.Own.{withRegistration, roundOf, backoffIn, restIn, isPositive, reports, reportOf};
+ghost use Rattle.outgoing.specs.declared.Report.the-variants.{Primary};
 ghost use Rattle.registration.specs.Round.{roundTaken};
 ghost use Rattle.rounds.specs.Rounds.{SentAs, Rounded};
 
@@ -78,16 +78,6 @@ pub fn round(state: State, out: &mut [u8], store: &[u8], time: Point, random: u3
     begin_round(state, len, random)
 }
 
-// The interval of a report.
-fn interval_of(a: Assigned, which: Report) -> Interval
-    ensures { λ r. ⌜ r ≡ intervalOf a which ⌝ }
-{
-    match which {
-        Report::Primary => a.interval,
-        Report::Heartbeat => a.heartbeat,
-    }
-}
-
 fn is_positive(interval: Interval) -> bool
     ensures { λ r. ⌜ r ≡ isPositive interval ⌝ }
 {
@@ -98,8 +88,8 @@ fn is_positive(interval: Interval) -> bool
 }
 
 // Whether there is something to report: a session, an acceptance, and an interval.
-fn is_reporting(state: State, which: Report) -> bool
-    ensures { λ r. ⌜ r ≡ reports state which ⌝ }
+fn is_due(state: State) -> bool
+    ensures { λ r. ⌜ r ≡ reports state Primary ⌝ }
 {
     let assigned = state.assigned;
     if !assigned.in_session {
@@ -108,7 +98,18 @@ fn is_reporting(state: State, which: Report) -> bool
     if !state.registration.accepted {
         return false;
     }
-    is_positive(interval_of(assigned, which))
+    let interval = assigned.interval;
+    is_positive(interval)
+}
+
+// Whether that report may be sent: the heartbeat is retired.
+fn is_reporting(state: State, which: Report) -> bool
+    ensures { λ r. ⌜ r ≡ reports state which ⌝ }
+{
+    match which {
+        Report::Primary => is_due(state),
+        Report::Heartbeat => false,
+    }
 }
 
 // A report: the NON POST to /c.
@@ -119,7 +120,7 @@ pub fn report(state: State, out: &mut [u8], store: &[u8], time: Point, which: Re
     if refused != 0 {
         return reply::silent(refused, state);
     }
-    let len = outgoing::put_report(state, store, time, which, out);
+    let len = outgoing::put_report(state, store, time, out);
     if len == 0 {
         return reply::silent(10, state);
     }

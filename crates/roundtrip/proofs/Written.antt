@@ -3,7 +3,7 @@ use Prim.Native.Nat.{ℕ, _^_, _≤_, _<_}
 use mathlib.Core.Path.{_≡_, refl, sym, ap, _∙_}
 use mathlib.Core.Bool.{true}
 use mathlib.Core.List.{List, [], _∷_, map, append-nil}
-use mathlib.Core.Option.{some}
+use mathlib.Core.Option.{none, some}
 use native.Mathlib.Nat.{le-of-eq}
 use native.Mathlib.Omega.{arith}
 use borrow.Author.Tests.{le-leb}
@@ -26,9 +26,7 @@ use Rattle.csmp.proofs.Formed.{load-response-formed, image-info-formed, every-f
 use Rattle.protobuf.proofs.EachLaws.{each-so}
 use Rattle.csmp.specs.Tables.{session, reportSubscribe, everyTable}
 use Rattle.decode_report.specs.Report.{reportOf}
-use Rattle.schedule.specs.declared.Interval.{Interval}
-use Rattle.schedule.specs.declared.Interval.the-variants.{Every, Absent}
-use Rattle.csmp.specs.Named.{intervalGiven}
+use Rattle.csmp.proofs.NamedLaws.{interval-same}
 use Rattle.roundtrip.specs.Written.{Samples, Back, Answered, WrittenBack, EveryMessage, OwnReaders}
 use Rattle.decode.proofs.Theorems.{session-read}
 use Rattle.decode_report.proofs.Theorems.{report-read}
@@ -39,7 +37,7 @@ use Rattle.protobuf.proofs.SizeLaws.{number-most, bytes-most, number-if-most, b
 use Rattle.encode.proofs.WriteLaws.{list-most}
 
 pub samples : Samples
-unfolding continued spelling varint two delimited numberField bytesField ifAny each written writeBy digitsBefore decimal momentNumber sessionRecord responseRecord indexRecord timeRecord runningRecord openRecord
+unfolding continued spelling varint two delimited numberField bytesField ifAny each written writeBy digitsBefore decimal intervalNumber momentNumber sessionRecord responseRecord indexRecord reportRecord timeRecord runningRecord openRecord
 samples = refl
 
 -- what is written by a table reads back
@@ -71,19 +69,13 @@ ids-back [] h = refl
 ids-back (id ∷ ids) h = rw (id-back .back id (h .0)) (ap (_∷_ id) (ids-back ids (h .1)))
 
 pub written-back : WrittenBack
-unfolding indexRecord sessionRecord reportRecord timeRecord groupRecord responseRecord runningRecord openRecord backupRecord writeBy written ifAny momentNumber
+unfolding indexRecord sessionRecord reportRecord timeRecord groupRecord responseRecord runningRecord openRecord backupRecord writeBy written ifAny each momentNumber
 written-back =
     record {
       index = λ i l. back (omega arith) tlv-index-formed (tt, tt) (simp length-append (omega (arith, list-most 1 68 (i .count) (i .list) l))) refl;
       sessionId = λ s l. back (omega arith) session-formed (tt, tt) (simp length-append (omega (arith, bytes-most 1 64 (take (s .len) (s .bytes)) (take-most (s .len) 64 (s .bytes) l)))) refl;
-      report = λ i ids h hids a l b m. back (omega arith) report-subscribe-formed (a, (tt, (b, (tt, tt))))
-          (simp length-append (omega (
-            arith,
-            number-if-most 1 (numberGiven (intervalNumber i)),
-            list-most 2 32 (ids .count) (ids .list) l,
-            number-if-most 3 (numberGiven (intervalNumber h)),
-            list-most 4 32 (hids .count) (hids .list) m,
-          ))) refl;
+      report = λ i ids a l. back (omega arith) report-subscribe-formed (a, (tt, (tt, (tt, tt))))
+          (simp length-append (omega (arith, number-if-most 1 (numberGiven (intervalNumber i)), list-most 2 32 (ids .count) (ids .list) l))) refl;
       time = λ p a. back (omega arith) current-time-formed (a, (tt, (tt, tt))) (simp length-append (omega (arith, number-most 1 (p .0)))) refl;
       groupInfo = λ kind id a b. back (omega arith) group-formed (a, (b, tt)) (simp length-append (omega (arith, number-most 1 kind, number-most 2 id))) refl;
       transferred = answered 71 (omega arith);
@@ -114,14 +106,6 @@ written-back =
 pub every-message : EveryMessage
 every-message = each-so Formed RoundTripped fields-back everyTable every-formed
 
--- a length is told by its number
-interval-same : (i j : Interval) → intervalGiven i ≡ intervalGiven j → i ≡ j
-unfolding intervalNumber
-interval-same (Every l) (Every m) h = let e : l .0 ≡ m .0 = cc in ap (λ (n : ℕ). Every (record { 0 = n })) e
-interval-same (Every l) Absent h = let z : _≡_ {A = ℕ} 0 1 = cc in absurd (omega arith)
-interval-same Absent (Every m) h = let z : _≡_ {A = ℕ} 0 1 = cc in absurd (omega arith)
-interval-same Absent Absent h = refl
-
 texts-few : (n : ℕ) (list : List ℕ) → length list ≡ 32 → length (map decimal (take n list)) ≤ 32
 texts-few n list h = let x = length-take n list in simp length-map (omega arith)
 
@@ -135,19 +119,17 @@ own-readers =
           let e = ap (λ (x : Values session). x .0) (b .values) in
           let k = length-take (s .len) (s .bytes) in
           (b .form, rw (r .reading, b .fields, e, le-leb (length (take (s .len) (s .bytes))) 64 (omega arith)), r .id ∙ e);
-      report = λ i ids h hids a l c b m d.
-          let x = written-back .report i ids h hids a l b m in
-          let v = writeBy reportSubscribe (numberGiven (intervalNumber i), (map decimal (held ids), (numberGiven (intervalNumber h), (map decimal (held hids), tt)))) in
+      report = λ i ids a l c.
+          let x = written-back .report i ids a l in
+          let v = writeBy reportSubscribe (numberGiven (intervalNumber i), (map decimal (held ids), (none, ([], tt)))) in
           let r = report-read v in
           let p = ap (λ (y : Values reportSubscribe). y .1 .0) (x .values) in
           let q = ap (λ (y : Values reportSubscribe). y .1 .1 .1 .0) (x .values) in
           let z : reportOf v .reading .readable ≡ true =
-          rw (r .reading, x .fields, p, q, le-leb (length (map decimal (held ids))) 32 (texts-few (ids .count) (ids .list) l), le-leb (length (map decimal (held hids))) 32 (texts-few (hids .count) (hids .list) m)) in (
+          rw (r .reading, x .fields, p, q, le-leb (length (map decimal (held ids))) 32 (texts-few (ids .count) (ids .list) l)) in (
             x .form,
             z,
             interval-same _ i (r .interval ∙ ap (λ (y : Values reportSubscribe). y .0) (x .values)),
             r .ids z ∙ ap idsAmong p ∙ ids-back (held ids) c,
-            interval-same _ h (r .heartbeat ∙ ap (λ (y : Values reportSubscribe). y .1 .1 .0) (x .values)),
-            r .heartbeatIds z ∙ ap idsAmong q ∙ ids-back (held hids) d,
           );
     }

@@ -16,6 +16,7 @@ use Rattle.decode.specs.Read.{sessionOf}
 use Rattle.decode_report.specs.Report.{reportOf}
 use Rattle.protobuf.specs.declared.Number.{Number}
 use Rattle.schedule.specs.declared.Interval.{Interval}
+use Rattle.schedule.specs.declared.Interval.the-variants.{Every, Absent}
 use Rattle.schedule.specs.declared.Moment.{Moment}
 use Rattle.schedule.specs.declared.Moment.the-variants.{At, Absent as Never}
 use Rattle.schedule.specs.declared.Point.{Point}
@@ -38,15 +39,20 @@ pub record Sample : Type 0 where
 abbrev seven : List ℕ
 seven = replicate 32 7
 
--- document 01, "Sample values": session "ab"; GroupAssign 1, 300; record 72 without hash, answer 6. Behind them, numbered by document 000, the
--- records that are only written: TlvIndex of 11 and 75; CurrentTime 5; a LoadResponse with hash and load time; FirmwareImageInfo of the running
--- image, and of an open one "a", version "b", with block 0 held, that is pending
+-- document 01, "Sample values": session "ab"; GroupAssign 1, 300; record 72 without hash, answer 6. Behind them, numbered by document 000, some
+-- of what else is written: TlvIndex of 11 and 75; ReportSubscribe with nothing in it (document 02, Q-10), and of interval 60 and id 11; CurrentTime 5; a
+-- LoadResponse with hash and load time; FirmwareImageInfo of the running image, and of an open one "a", version "b", with block 0 held, that is pending
 abbrev pub samples : List Sample
 samples =
     record { written = sessionRecord (record { bytes = 97 ∷ 98 ∷ replicate 62 0; len = 2 }); bytes = 0x07 ∷ 0x04 ∷ 0x0A ∷ 0x02 ∷ 0x61 ∷ 0x62 ∷ [] }
     ∷ record { written = recordBytes 55 (writeBy group (some 1, (some 300, tt))); bytes = 0x37 ∷ 0x05 ∷ 0x08 ∷ 0x01 ∷ 0x10 ∷ 0xAC ∷ 0x02 ∷ [] }
     ∷ record { written = responseRecord 72 (record { given = false; bytes = replicate 32 0 }) 6 Never; bytes = 0x48 ∷ 0x02 ∷ 0x10 ∷ 0x06 ∷ [] }
     ∷ record { written = indexRecord (record { list = 11 ∷ 75 ∷ replicate 66 0; count = 2 }); bytes = 0x01 ∷ 0x08 ∷ 0x0A ∷ 0x02 ∷ 0x31 ∷ 0x31 ∷ 0x0A ∷ 0x02 ∷ 0x37 ∷ 0x35 ∷ [] }
+    ∷ record { written = reportRecord Absent (record { list = replicate 32 0; count = 0 }); bytes = 0x0D ∷ 0x00 ∷ [] }
+    ∷ record {
+      written = reportRecord (Every (record { 0 = 60 })) (record { list = 11 ∷ replicate 31 0; count = 1 });
+      bytes = 0x0D ∷ 0x06 ∷ 0x08 ∷ 0x3C ∷ 0x12 ∷ 0x02 ∷ 0x31 ∷ 0x31 ∷ [];
+    }
     ∷ record { written = timeRecord (record { 0 = 5 }); bytes = 0x12 ∷ 0x02 ∷ 0x08 ∷ 0x05 ∷ [] }
     ∷ record {
       written = responseRecord 72 (record { given = true; bytes = seven }) 0 (At (record { 0 = 5 }));
@@ -110,9 +116,8 @@ pub record WrittenBack : Type 0 where
   -- 7 SessionID
   pub sessionId : (s : SessionId) → length (s .bytes) ≡ 64 → Back 7 session (some (take (s .len) (s .bytes)), tt) (sessionRecord s)
   -- 13 ReportSubscribe
-  pub report : (i : Interval) (ids : Ids) (h : Interval) (hids : Ids)
-      → Below (intervalNumber i) → length (ids .list) ≡ 32 → Below (intervalNumber h) → length (hids .list) ≡ 32
-      → Back 13 reportSubscribe (numberGiven (intervalNumber i), (map decimal (held ids), (numberGiven (intervalNumber h), (map decimal (held hids), tt)))) (reportRecord i ids h hids)
+  pub report : (i : Interval) (ids : Ids) → Below (intervalNumber i) → length (ids .list) ≡ 32
+      → Back 13 reportSubscribe (numberGiven (intervalNumber i), (map decimal (held ids), (none, ([], tt)))) (reportRecord i ids)
   -- 18 CurrentTime
   pub time : (p : Point) → p .0 < 2 ^ 32 → Back 18 currentTime (some (p .0), (none, (none, tt))) (timeRecord p)
   -- 58 GroupInfo
@@ -147,9 +152,6 @@ pub record OwnReaders : Type 0 where
   pub sessionId : (s : SessionId) → length (s .bytes) ≡ 64
       → let v = writeBy session (some (take (s .len) (s .bytes)), tt) in
       (sessionRecord s ≡ recordBytes 7 v) × (sessionOf v .reading .readable ≡ true) × (bytesGiven v (sessionOf v .id) ≡ some (take (s .len) (s .bytes)))
-  pub report : (i : Interval) (ids : Ids) (h : Interval) (hids : Ids)
-      → Below (intervalNumber i) → length (ids .list) ≡ 32 → Each (λ (id : ℕ). id < 2 ^ 32) (held ids)
-      → Below (intervalNumber h) → length (hids .list) ≡ 32 → Each (λ (id : ℕ). id < 2 ^ 32) (held hids)
-      → let v = writeBy reportSubscribe (numberGiven (intervalNumber i), (map decimal (held ids), (numberGiven (intervalNumber h), (map decimal (held hids), tt)))) in
-      (reportRecord i ids h hids ≡ recordBytes 13 v) × (reportOf v .reading .readable ≡ true)
-      × (reportOf v .interval ≡ i) × (held (reportOf v .ids) ≡ held ids) × (reportOf v .heartbeat ≡ h) × (held (reportOf v .«heartbeat_ids») ≡ held hids)
+  pub report : (i : Interval) (ids : Ids) → Below (intervalNumber i) → length (ids .list) ≡ 32 → Each (λ (id : ℕ). id < 2 ^ 32) (held ids)
+      → let v = writeBy reportSubscribe (numberGiven (intervalNumber i), (map decimal (held ids), (none, ([], tt)))) in
+      (reportRecord i ids ≡ recordBytes 13 v) × (reportOf v .reading .readable ≡ true) × (reportOf v .interval ≡ i) × (held (reportOf v .ids) ≡ held ids)

@@ -1,2 +1,2 @@
 // What is proved of the readers and writers of messages, beyond the functions' contracts: each message that the agent writes reads back
-// (specs/Written.antt), and the readers read by the tables (specs/Read.antt). There is no function here.
+// (specs/Written.antt). There is no function here.

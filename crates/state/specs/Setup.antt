@@ -71,8 +71,6 @@ noneAssigned =
       reporting = false;
       interval = Absent;
       ids = noIds;
-      heartbeat = Absent;
-      «heartbeat_ids» = noIds;
     }
 
 -- setup starts registration: not accepted, no round awaited, interval tIntervalMin

@@ -74,8 +74,6 @@ pub struct Assigned {
     pub reporting: bool,
     pub interval: Interval,
     pub ids: Ids,
-    pub heartbeat: Interval,
-    pub heartbeat_ids: Ids,
 }
 
 // Registration: whether it was accepted, the round whose acknowledgement is awaited, the interval of the next one.

@@ -138,8 +138,6 @@ fn none_assigned() -> Assigned
         reporting: false,
         interval: Interval::Absent,
         ids: decimal::no_ids(),
-        heartbeat: Interval::Absent,
-        heartbeat_ids: decimal::no_ids(),
     }
 }
 

@@ -1,7 +1,7 @@
 -- At most how many bytes a message takes, by the rows of its table.
 use Prim.Native.Nat.{ℕ, _+_, _*_, _^_, _≤_, _<_}
 use mathlib.Core.Path.{_≡_}
-use mathlib.Core.List.{List}
+use mathlib.Core.List.{List, []}
 use mathlib.Core.Bool.{Bool, true, false}
 use mathlib.Core.Option.{Option, none, some}
 use native.Mathlib.Omega.{arith}
@@ -9,9 +9,9 @@ use lib.ListN.{length, take, length-append}
 use Rattle.varint.specs.Varint.{delimited}
 use Rattle.varint.proofs.Laws.{varint-length, varint-1, varint-2, two-length, delimited-length}
 use Rattle.protobuf.specs.Given.{ifGiven}
-use Rattle.protobuf.specs.Write.{numberField, bytesField, ifAny}
+use Rattle.protobuf.specs.Write.{numberField, bytesField, ifAny, each}
 use Rattle.protobuf.proofs.SizeLaws.{take-most}
-use Rattle.tables.specs.Table.{Kind, uint32, bool, bytes, string, message, Table, end, row, Value, Values, flagNumber, written, writeBy}
+use Rattle.tables.specs.Table.{Kind, uint32, bool, bytes, string, strings, message, Table, end, row, Value, Values, flagNumber, written, writeBy}
 
 -- bounds of the fields, row by row
 pub data Rows : (T : Table) → Values T → ℕ → Type 0 where
@@ -77,6 +77,10 @@ module _ (n : ℕ) where
   pub no-string : length (written string n none) ≤ 0
   unfolding written ifAny
   no-string = omega arith
+
+  pub no-strings : length (written strings n []) ≤ 0
+  unfolding written each
+  no-strings = omega arith
 
   pub no-message : (T : Table) → length (written (message T) n none) ≤ 0
   unfolding written ifAny

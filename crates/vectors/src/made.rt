@@ -50,23 +50,17 @@ fn listed(a: u32, b: u32) -> Ids {
     decimal::push(one, b)
 }
 
-// A report, and one with nothing to report.
+// A report, one with an interval of 0, and one with nothing in it.
 fn reports() {
     let mut out = [0u8; 1024];
     let every = Interval::Every(Length(60));
-    let beat = Interval::Every(Length(0));
-    let n = encode::put_report(
-        &mut out,
-        0,
-        every,
-        listed(58, 4294967295),
-        beat,
-        listed(0, 22),
-    );
+    let n = encode::put_report(&mut out, 0, every, listed(58, 4294967295));
     made(&out, n);
-    let none = decimal::no_ids();
-    let m = encode::put_report(&mut out, 0, Interval::Absent, none, Interval::Absent, none);
+    let never = Interval::Every(Length(0));
+    let m = encode::put_report(&mut out, 0, never, listed(0, 22));
     made(&out, m);
+    let k = encode::put_report(&mut out, 0, Interval::Absent, decimal::no_ids());
+    made(&out, k);
 }
 
 fn index() {

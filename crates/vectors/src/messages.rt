@@ -92,12 +92,8 @@ fn report(v: &[u8]) {
     readable(m.reading.readable);
     let every = m.interval;
     interval(every);
-    let first = m.ids;
-    ids(first);
-    let beat = m.heartbeat;
-    interval(beat);
-    let second = m.heartbeat_ids;
-    ids(second);
+    let list = m.ids;
+    ids(list);
 }
 
 fn group(v: &[u8]) {

@@ -9,7 +9,7 @@ read-report-requires c κs = search needs
 
 returns : tie.Need-returns
 unfolding withReport
-returns c = rw (c .before .before .before .before .read-report .ensures)
+returns c = rw (c .before .before .before .read-report .ensures)
 
 pub with-report-spec : {M : Type 1} → statement M
 with-report-spec = tie.close (tie.spec read-report-requires returns)

@@ -6,10 +6,10 @@ use Rattle.decode_report.proofs.add_field.Statement.{statement}
 use Rattle.decode_report.proofs.add_field.Tie as tie
 
 returns : tie.Need-returns
-returns c = sym (field-other-number _ _ _ _ (c .if1 .taken))
+returns c = sym (field-other-number _ _ _ (c .if1 .taken))
 
 returns-2 : tie.Need-returns-2
-returns-2 c = sym (field-other-wire _ _ _ _ (c .before .before .if1 .left) (c .if2 .taken))
+returns-2 c = sym (field-other-wire _ _ _ (c .before .before .if1 .left) (c .if2 .taken))
 
 sub-add-entry : tie.Need-sub-add-entry
 sub-add-entry c = search needs
@@ -24,7 +24,7 @@ add-entry-requires : tie.Need-add-entry-requires
 add-entry-requires c κs = search needs
 
 returns-3 : tie.Need-returns-3
-returns-3 c = c .add-entry .ensures ∙ sym (field-entry _ _ _ _ (c .before .before .before .before .if1 .left) (c .before .before .if2 .left))
+returns-3 c = c .add-entry .ensures ∙ sym (field-entry _ _ _ (c .before .before .before .before .if1 .left) (c .before .before .if2 .left))
 
 pub add-field-spec : {M : Type 1} → statement M
 add-field-spec =

@@ -17,14 +17,14 @@ use Rattle.decode_report.proofs.read_ids.Statement.{statement}
 use Rattle.decode_report.proofs.read_ids.Tie as tie
 
 -- the ids of the fields left, behind those found before
-abbrev left : List ℕ → ℕ → Ids → Walked Field → Ids
-left v n ids x = withEntries ids (valueOf strings n (map (contentOf v) (x .items)))
+abbrev left : List ℕ → Ids → Walked Field → Ids
+left v ids x = withEntries ids (valueOf strings 2 (map (contentOf v) (x .items)))
 
 abbrev Inv-loop : tie.InvT-loop
-Inv-loop v number ids₀ at₀ ids at = listedIn v number ≡ left v number ids (fieldsFrom v at)
+Inv-loop v ids₀ at₀ ids at = listedIn v ≡ left v ids (fieldsFrom v at)
 
 abbrev μ-loop : tie.MeasureT-loop
-μ-loop v number ids₀ at₀ ids at = length v - at
+μ-loop v ids₀ at₀ ids at = length v - at
 
 no-ids-requires : tie.Need-no-ids-requires Inv-loop μ-loop
 no-ids-requires c κs = tt
@@ -46,7 +46,7 @@ returns : tie.Need-returns Inv-loop μ-loop
 unfolding withEntries valueOf alike
 returns c =
     let l = c .before .before .before .before .loop in
-    sym (l .inv ∙ ap (left _ _ _) (fields-unreadable _ _ (c .before .before .before .loop-test .taken) (sym (c .before .before .field-at .ensures) ∙ c .enum-told .given .1)))
+    sym (l .inv ∙ ap (left _ _) (fields-unreadable _ _ (c .before .before .before .loop-test .taken) (sym (c .before .before .field-at .ensures) ∙ c .enum-told .given .1)))
 
 add-field-requires : tie.Need-add-field-requires Inv-loop μ-loop
 add-field-requires c κs =
@@ -66,12 +66,12 @@ loop-again : tie.Need-loop-again Inv-loop μ-loop
 loop-again c =
     let x = c .before .before in
     let e = sym (x .before .before .field-at .ensures) ∙ x .f .given .1 in
-    rw (c .add-field .ensures) (x .before .before .before .before .loop .inv ∙ ap (left _ _ _) (fields-more _ _ _ (x .before .before .before .loop-test .taken) e) ∙ field-first _ _ _ _ _)
+    rw (c .add-field .ensures) (x .before .before .before .before .loop .inv ∙ ap (left _ _) (fields-more _ _ _ (x .before .before .before .loop-test .taken) e) ∙ field-first _ _ _ _)
 
 returns-2 : tie.Need-returns-2 Inv-loop μ-loop
 unfolding withEntries valueOf alike
 returns-2 c =
-    let l = c .before .loop in sym (l .inv ∙ ap (left _ _ _) (fields-end _ _ (c .loop-test .left)))
+    let l = c .before .loop in sym (l .inv ∙ ap (left _ _) (fields-end _ _ (c .loop-test .left)))
 
 pub read-ids-spec : {M : Type 1} → statement M
 read-ids-spec =

@@ -33,18 +33,6 @@ number-requires c κs = search needs
 interval-requires : tie.Need-interval-requires
 interval-requires c κs = search needs
 
-array-read-number-3 : tie.Need-array-read-number-3
-array-read-number-3 c = search needs
-
-array-read-number-4 : tie.Need-array-read-number-4
-array-read-number-4 c = search needs
-
-number-requires-2 : tie.Need-number-requires-2
-number-requires-2 c κs = search needs
-
-interval-requires-2 : tie.Need-interval-requires-2
-interval-requires-2 c κs = search needs
-
 array-read-is-few : tie.Need-array-read-is-few
 array-read-is-few c = search needs
 
@@ -66,18 +54,13 @@ limit-requires c κs = search needs
 read-ids-requires : tie.Need-read-ids-requires
 read-ids-requires c κs = search needs
 
-read-ids-requires-2 : tie.Need-read-ids-requires-2
-read-ids-requires-2 c κs = search needs
-
 returns : tie.Need-returns
 unfolding cellsOf heldCells noneFound noneHeld
 returns c =
-    report-by (c .before .before .before .before .before .before .before .before .before .before .before .before .before .before .before .before .args .v .now) (c .before .before .before .before .before .before .before .before .before .before .before .before .before .before .report-subscribe .ensures) refl (c .before .before .before .before .before .before .before .before .before .before .before .read .ensures)
-    (c .before .before .limit .ensures ∙ ap (limited (c .before .before .before .before .before .before .before .before .before .before .before .read .result)) (c .before .before .before .both .ensures ∙ ap₂ _&&_ (c .before .before .before .before .before .is-few .ensures) (c .before .before .before .before .is-few2 .ensures)))
-    (c .before .before .before .before .before .before .before .before .interval .ensures ∙ ap intervalOf (c .before .before .before .before .before .before .before .before .before .number .ensures))
-    (c .before .read-ids .ensures)
-    (c .before .before .before .before .before .before .interval2 .ensures ∙ ap intervalOf (c .before .before .before .before .before .before .before .number2 .ensures))
-    (c .read-ids2 .ensures)
+    report-by (c .before .before .before .before .before .before .before .before .before .before .before .before .before .args .v .now) (c .before .before .before .before .before .before .before .before .before .before .before .report-subscribe .ensures) refl (c .before .before .before .before .before .before .before .before .read .ensures)
+    (c .before .limit .ensures ∙ ap (limited (c .before .before .before .before .before .before .before .before .read .result)) (c .before .before .both .ensures ∙ ap₂ _&&_ (c .before .before .before .before .is-few .ensures) (c .before .before .before .is-few2 .ensures)))
+    (c .before .before .before .before .before .interval .ensures ∙ ap intervalOf (c .before .before .before .before .before .before .number .ensures))
+    (c .read-ids .ensures)
 
 pub read-report-spec : {M : Type 1} → statement M
 read-report-spec =
@@ -91,10 +74,6 @@ read-report-spec =
     array-read-number-2
     number-requires
     interval-requires
-    array-read-number-3
-    array-read-number-4
-    number-requires-2
-    interval-requires-2
     array-read-is-few
     is-few-requires
     array-read-is-few-2
@@ -102,5 +81,4 @@ read-report-spec =
     both-requires
     limit-requires
     read-ids-requires
-    read-ids-requires-2
     returns)

@@ -12,7 +12,6 @@ assigned-sized s =
     let a = s .good .0 .1 .1 .1 .1 .0 .1 .1 in
     record {
       ids = simp length-map at (a .1 .1 .1 .1 .1 .0 .1 .1 .0 .1 .0 .1);
-      «heartbeat_ids» = simp length-map at (a .1 .1 .1 .1 .1 .1 .1 .0 .1 .1 .0 .1 .0 .1);
       groups = simp length-map at (a .0 .1 .1 .0 .1 .0 .1);
     }
 

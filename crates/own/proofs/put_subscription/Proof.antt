@@ -23,7 +23,7 @@ same-length-2 : tie.Need-same-length-2
 same-length-2 c = search needs
 
 returns-2 : tie.Need-returns-2
-returns-2 c = report-put _ (c .before .before .before .before .before .before .if1 .left) (c .before .before .put-report .ensures)
+returns-2 c = report-put _ (c .before .before .before .before .before .if1 .left) (c .before .before .put-report .ensures)
 
 pub put-subscription-spec : {M : Type 1} → statement M
 put-subscription-spec =

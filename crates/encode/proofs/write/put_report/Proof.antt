@@ -1,7 +1,8 @@
 -- `encode::write::put_report` meets its contract: the fields make the value, which fits its buffer, and the record holds it.
 use Prim.Native.Nat.{ℕ}
 use mathlib.Core.Path.{_≡_, sym}
-use mathlib.Core.List.{List, map}
+use mathlib.Core.List.{List, [], map}
+use mathlib.Core.Option.{none}
 use lib.Dec.{lit≤}
 use lib.ListN.{length, replicate}
 use lib.Seq.{length-take-le}
@@ -9,58 +10,44 @@ use Rattle.buffer.proofs.Puts.{done, next, Whole}
 use Rattle.decimal.specs.Decimal.{decimal}
 use Rattle.decimal.specs.Ids.{held}
 use Rattle.protobuf.specs.Given.{numberGiven}
+use Rattle.protobuf.specs.Write.{ifAny, each}
 use Rattle.tables.specs.Table.{written, writeBy}
 use Rattle.csmp.specs.Tables
 use Rattle.csmp.specs.Values.{intervalNumber}
 use Rattle.encode.specs.Write.{reportRecord}
-use Rattle.encode.proofs.WriteLaws.{texts-each, texts-most, list-most, room-texts}
+use Rattle.encode.proofs.WriteLaws.{texts-each, list-most, room-texts}
 use Rattle.protobuf.proofs.SizeLaws.{number-if-most, nil, upto, whole}
 use borrow.Author.Needs.{needs}
 use Rattle.encode.proofs.write.put_report.Statement.{statement}
 use Rattle.encode.proofs.write.put_report.Tie as tie
 
--- the lengths of the arrays that were passed
+-- the length of the array that was passed
 sized : (s : tie.Start) → length (s .args .ids .list) ≡ 32
 sized s = search needs
-
-beat-sized : (s : tie.Start) → length (s .args .heartbeat-ids .list) ≡ 32
-beat-sized s = search needs
 
 -- what the record holds
 abbrev fields : tie.Start → List ℕ
 fields s =
-    writeBy Tables.reportSubscribe (
-      numberGiven (intervalNumber (s .args .interval)),
-      (
-        map decimal (held (s .args .ids)),
-        (numberGiven (intervalNumber (s .args .heartbeat)), (map decimal (held (s .args .heartbeat-ids)), tt)),
-      ),
-    )
+    writeBy Tables.reportSubscribe (numberGiven (intervalNumber (s .args .interval)), (map decimal (held (s .args .ids)), (none, ([], tt))))
 
 -- the entry, seen from behind the puts
 abbrev start : tie.After-put-arg → tie.Start
-start x = x .before .before .before .before .before .before .before .before .before .before .before .before .before .before .before .before .before .before .before .before .before .before
+start x = x .before .before .before .before .before .before .before .before .before .before .before .before
 
 -- the puts left it at the front of the buffer
-value : (x : tie.After-put-arg) → Whole (replicate 2048 0) (fields (start x)) (x .before .before .put-texts2 .last .0) (x .before .before .put-texts2 .result)
-unfolding written writeBy
+value : (x : tie.After-put-arg) → Whole (replicate 1024 0) (fields (start x)) (x .before .before .put-texts .last .0) (x .before .before .put-texts .result)
+unfolding written writeBy ifAny each
 value x =
-    let p4 = x .before .before in
-    let p3 = p4 .before .before .before .before .before in
-    let p2 = p3 .before .before .before .before in
+    let p2 = x .before .before in
     let p1 = p2 .before .before .before .before .before in
     let a = start x .args in
     whole
     (next (rw (p1 .before .interval-number .ensures) at (p1 .put-given .ensures))
     (next (rw (p2 .before .front-ids .ensures, texts-each) at (p2 .put-texts .ensures))
-    (next (rw (p3 .before .interval-number2 .ensures) at (p3 .put-given2 .ensures))
-    (next (rw (p4 .before .front-ids2 .ensures, texts-each) at (p4 .put-texts2 .ensures))
-    done))))
+    done))
     (upto (number-if-most 1 (numberGiven (intervalNumber (a .interval))))
     (upto (list-most 2 32 (a .ids .count) (a .ids .list) (sized (start x)))
-    (upto (number-if-most 3 (numberGiven (intervalNumber (a .heartbeat))))
-    (upto (list-most 4 32 (a .heartbeat-ids .count) (a .heartbeat-ids .list) (beat-sized (start x)))
-    nil))))
+    nil))
     (lit≤ tt)
 
 slice-aggregate-put-given : tie.Need-slice-aggregate-put-given
@@ -83,43 +70,12 @@ front-ids-requires c κs = search needs
 
 put-texts-requires : tie.Need-put-texts-requires
 put-texts-requires c κs =
-    let s = c .before .before .before .before .before .before .before .before .before .before in
+    let s = c .before .before .before .before .before .before .before .before .before in
     room-texts 2 32 (s .args .ids .count) _ (s .args .ids .list)
     (next (c .before .before .before .before .put-given .ensures) done)
     (upto (number-if-most 1 _) nil)
     (c .front-ids .ensures)
     (sized s)
-    (lit≤ tt)
-
-slice-aggregate-put-given-2 : tie.Need-slice-aggregate-put-given-2
-slice-aggregate-put-given-2 c = search needs
-
-interval-number-requires-2 : tie.Need-interval-number-requires-2
-interval-number-requires-2 c κs = search needs
-
-put-given-requires-2 : tie.Need-put-given-requires-2
-put-given-requires-2 c κs = search needs
-
-slice-aggregate-put-texts-2 : tie.Need-slice-aggregate-put-texts-2
-slice-aggregate-put-texts-2 c = search needs
-
-slice-aggregate-front-ids-2 : tie.Need-slice-aggregate-front-ids-2
-slice-aggregate-front-ids-2 c = search needs
-
-front-ids-requires-2 : tie.Need-front-ids-requires-2
-front-ids-requires-2 c κs = search needs
-
-put-texts-requires-2 : tie.Need-put-texts-requires-2
-put-texts-requires-2 c κs =
-    let p3 = c .before .before .before .before in
-    let p2 = p3 .before .before .before .before in
-    let p1 = p2 .before .before .before .before .before in
-    let s = p1 .before .before .before .before .before .before in
-    room-texts 4 32 (s .args .heartbeat-ids .count) _ (s .args .heartbeat-ids .list)
-    (next (p1 .put-given .ensures) (next (p2 .put-texts .ensures) (next (p3 .put-given2 .ensures) done)))
-    (upto (number-if-most 1 _) (upto (texts-most 2 32 (s .args .ids .count) _ (s .args .ids .list) (p2 .before .front-ids .ensures) (sized s)) (upto (number-if-most 3 _) nil)))
-    (c .front-ids2 .ensures)
-    (beat-sized s)
     (lit≤ tt)
 
 array-share-prefix-value : tie.Need-array-share-prefix-value
@@ -149,13 +105,6 @@ put-report-spec =
     slice-aggregate-front-ids
     front-ids-requires
     put-texts-requires
-    slice-aggregate-put-given-2
-    interval-number-requires-2
-    put-given-requires-2
-    slice-aggregate-put-texts-2
-    slice-aggregate-front-ids-2
-    front-ids-requires-2
-    put-texts-requires-2
     array-share-prefix-value
     slice-aggregate-put
     put-requires

@@ -9,11 +9,8 @@ no-groups-requires c κs = search needs
 no-ids-requires : tie.Need-no-ids-requires
 no-ids-requires c κs = search needs
 
-no-ids-requires-2 : tie.Need-no-ids-requires-2
-no-ids-requires-2 c κs = search needs
-
 returns : tie.Need-returns
-returns c = rw (c .no-ids2 .ensures, c .before .no-ids .ensures, c .before .before .no-groups .ensures)
+returns c = rw (c .no-ids .ensures, c .before .no-groups .ensures)
 
 pub none-assigned-spec : {M : Type 1} → statement M
-none-assigned-spec = tie.close (tie.spec no-groups-requires no-ids-requires no-ids-requires-2 returns)
+none-assigned-spec = tie.close (tie.spec no-groups-requires no-ids-requires returns)
