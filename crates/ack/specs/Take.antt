@@ -1,4 +1,4 @@
--- When an acknowledgement is taken, and what it then does, document 01, "Registration and reports", as document 02, Q-3, amends it.
+-- When an acknowledgement is taken, and what it then does, document 01, "Registration and reports", as document 02, Q-3, amends it; padding, Q-8.
 use Prim.Native.Nat.{ℕ}
 use mathlib.Core.List.{List}
 use mathlib.Core.Bool.{Bool, true, not, _&&_, _||_}
@@ -8,7 +8,7 @@ use Rattle.post.specs.Judge.{badlySigned}
 use Rattle.schedule.specs.declared.Point.{Point}
 use Rattle.state.specs.declared.Registration.{Registration}
 use Rattle.state.specs.declared.State.{State}
-use Rattle.learn.specs.Learn.{learntFrom}
+use Rattle.learn.specs.Learn.{learntFrom, paddedIn}
 use Rattle.note.specs.declared.Learnt.{Learnt}
 
 -- whose id is the latest round's, not yet accepted
@@ -47,10 +47,21 @@ takenBy s l =
     (acceptedBy s l)
 
 -- all others change nothing
-unfoldable pub acknowledged : State → ℕ → List ℕ → Point → ℕ → State
-acknowledged s id p time verdict =
+unfoldable pub taken : State → ℕ → List ℕ → Point → ℕ → State
+taken s id p time verdict =
     pick (isAwaited (s .registration) id)
     (pick (isTakable (learntFrom (s .device) (s .registration) (s .assigned) time p) verdict (s .device .«signed_responses»))
     (takenBy s (learntFrom (s .device) (s .registration) (s .assigned) time p))
     s)
     s
+
+-- document 02, Q-8: where padding is refused, a padded one is unreadable
+unfoldable pub acknowledged : State → ℕ → List ℕ → Point → ℕ → State
+acknowledged s id p time verdict = pick (s .device .«refuse_padding» && paddedIn p) s (taken s id p time verdict)
+
+-- one that is taken answers whether it is padded
+unfoldable pub takenPadded : State → ℕ → List ℕ → Point → ℕ → Bool
+takenPadded s id p time verdict =
+    isAwaited (s .registration) id
+    && (isTakable (learntFrom (s .device) (s .registration) (s .assigned) time p) verdict (s .device .«signed_responses»)
+    && (not (s .device .«refuse_padding») && paddedIn p))

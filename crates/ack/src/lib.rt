@@ -4,7 +4,7 @@ use schedule::Point;
 use state::Registration;
 use state::State;
 ghost use mathlib.Core.Path.{_≡_};
-ghost use Rattle.ack.specs.Take.{isAwaited, isTakable, acceptedBy, takenBy, acknowledged};
+ghost use Rattle.ack.specs.Take.{isAwaited, isTakable, acceptedBy, takenBy, acknowledged, takenPadded};
 
 // It answers the latest round, and registration is not accepted yet.
 fn is_awaited(registration: Registration, id: u16) -> bool
@@ -61,19 +61,42 @@ fn take(state: State, learnt: Learnt) -> State
     next
 }
 
-// An ACK 2.03 with a message id: taken, or nothing changes.
-pub fn acknowledge(state: State, id: u16, payload: &[u8], time: Point, verdict: u8) -> State
-    ensures { λ r. ⌜ r ≡ acknowledged state id (now (payload .entry)) time verdict ⌝ }
+// What an acknowledgement leaves: the state, and whether it was taken and has a padded varint.
+pub struct Acknowledged {
+    pub state: State,
+    pub padded: bool,
+}
+
+// An ACK 2.03 with a message id: taken, or nothing changes. Where padding is refused, a padded one is unreadable.
+pub fn acknowledge(state: State, id: u16, payload: &[u8], time: Point, verdict: u8) -> Acknowledged
+    ensures { λ r. ⌜ (r .state ≡ acknowledged state id (now (payload .entry)) time verdict) × (r .padded ≡ takenPadded state id (now (payload .entry)) time verdict) ⌝ }
 {
     let device = state.device;
     let registration = state.registration;
     let assigned = state.assigned;
     if !is_awaited(registration, id) {
-        return state;
+        return Acknowledged {
+            state,
+            padded: false,
+        };
     }
-    let learnt = learn::learn(device, registration, assigned, payload, time);
+    let learned = learn::learn(device, registration, assigned, payload, time);
+    if buffer::both(device.refuse_padding, learned.padded) {
+        return Acknowledged {
+            state,
+            padded: false,
+        };
+    }
+    let learnt = learned.learnt;
     if !is_takable(learnt, verdict, device.signed_responses) {
-        return state;
+        return Acknowledged {
+            state,
+            padded: false,
+        };
     }
-    take(state, learnt)
+    let next = take(state, learnt);
+    Acknowledged {
+        state: next,
+        padded: learned.padded,
+    }
 }

@@ -5,8 +5,14 @@ use mathlib.Core.List.{List}
 use Rattle.calls.specs.Datagram.{Effect}
 use Rattle.reply.specs.Reply.{Sent}
 use Rattle.reply.specs.declared.Answer.{Answer}
+use Rattle.reply.specs.declared.DatagramAnswer.{DatagramAnswer}
 
--- its answer with the output, and the image buffer
-pub record Left (e : Effect) (out : List ℕ) (r : Answer) (flash left : List ℕ) : Type 0 where
-  pub answer : Sent (e .outcome) (e .reply) (e .state) out r left
+-- an answer without what it says of padding
+abbrev pub answerIn : DatagramAnswer → Answer
+answerIn r = record { outcome = r .outcome; len = r .len; state = r .state }
+
+-- its answer with the output, whether the payload is padded, and the image buffer
+pub record Left (e : Effect) (out : List ℕ) (r : DatagramAnswer) (flash left : List ℕ) : Type 0 where
+  pub answer : Sent (e .outcome) (e .reply) (e .state) out (answerIn r) left
+  pub padded : r .padded ≡ e .padded
   pub image : flash ≡ e .image

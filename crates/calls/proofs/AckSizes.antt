@@ -2,7 +2,7 @@
 use Prim.Native.Nat.{ℕ, _-_, _≤_}
 use mathlib.Core.Path.{_≡_}
 use mathlib.Core.List.{List, [], _∷_}
-use mathlib.Core.Bool.{Bool, true, false, not}
+use mathlib.Core.Bool.{Bool, true, false, not, _&&_}
 use mathlib.Core.Option.{Option, none, some}
 use native.Mathlib.Omega.{arith}
 use borrow.Author.Tests.{not-true, leb-true, leb-false, eqb-true}
@@ -11,8 +11,8 @@ use lib.ListN.{length, length-take}
 use Rattle.assign.specs.Assign.{sessionIdOf, inSession, withSession, withReport, placeOf, regrouped}
 use Rattle.assign.specs.declared.Regrouped.{Regrouped}
 use Rattle.note.specs.Note.{nothingLearnt, marked, redirectNoted, sessionNoted, reportNoted, withRegrouped, groupAssigned, grouped, withGroup, groupNoted, validityNoted, signatureNoted, noted}
-use Rattle.learn.specs.Learn.{learntOf, learntFrom}
-use Rattle.ack.specs.Take.{isAwaited, isTakable, acceptedBy, takenBy, acknowledged}
+use Rattle.learn.specs.Learn.{learntOf, learntFrom, paddedIn}
+use Rattle.ack.specs.Take.{isAwaited, isTakable, acceptedBy, takenBy, taken, acknowledged}
 use Rattle.note.specs.declared.Learnt.{Learnt}
 use Rattle.buffer.proofs.Tests.{pick-both, both}
 use Rattle.csmp.specs.Values.{atMost}
@@ -236,14 +236,15 @@ module _ (s : State) (id : ℕ) (p : List ℕ) (time : Point) (verdict : ℕ) wh
       → (learntBy .readable ≡ true → P (record { device = s .device; images = s .images; assigned = s .assigned; registration = learntBy .registration }))
       → (learntBy .readable ≡ true → learntBy .«needs_ninth» ≡ false → P (acceptedBy s learntBy))
       → P (acknowledged s id p time verdict)
-  unfolding acknowledged takenBy
+  unfolding acknowledged taken takenBy
   by-taken P same redirect accept =
       let required = s .device .«signed_responses» in
-      pick-both P (isAwaited (s .registration) id) _ _
+      pick-both P (s .device .«refuse_padding» && paddedIn p) _ _ (λ _. same)
+      (λ _. pick-both P (isAwaited (s .registration) id) _ _
       (λ _. pick-both P (isTakable learntBy verdict required) _ _
       (λ t. let r = takable-readable learntBy verdict required t in
       pick-both P (learntBy .redirected) _ _ (λ _. redirect r) (λ n. accept r (takable-placed learntBy verdict required t n)))
-      (λ _. same)) (λ _. same)
+      (λ _. same)) (λ _. same))
 
 pub acknowledged-sized : (s : State) (sized : Sized s) (id : ℕ) (p : List ℕ) (time : Point) (verdict : ℕ) → Sized (acknowledged s id p time verdict)
 unfolding acceptedBy

@@ -2,13 +2,13 @@
 use Prim.Native.Nat.{ℕ}
 use mathlib.Core.Path.{_≡_, refl, sym, _∙_}
 use mathlib.Core.List.{List, [], _∷_}
-use mathlib.Core.Bool.{Bool, true, false, not, true≢false}
+use mathlib.Core.Bool.{Bool, true, false, not, _&&_, true≢false}
 use mathlib.Core.Logic.{_⊎_, inl, inr}
 use mathlib.Core.Option.{Option, none, some}
 use lib.Dec.{eqb, leb}
 use lib.ListN.{drop}
-use Rattle.ack.specs.Take.{isAwaited, acceptedBy, acknowledged}
-use Rattle.buffer.proofs.Tests.{pick-both}
+use Rattle.ack.specs.Take.{isAwaited, acceptedBy, taken, acknowledged}
+use Rattle.buffer.proofs.Tests.{split, pick-both}
 use Rattle.class.specs.Class.{classOf}
 use Rattle.class.specs.declared.Class.{Class}
 use Rattle.class.specs.declared.Class.the-variants.{Request, Acknowledgement, Rejected, Ignored}
@@ -17,7 +17,7 @@ use Rattle.coap.specs.declared.Datagram.{Datagram}
 use Rattle.coap.specs.declared.Datagram.the-variants.{Frame as Whole, Malformed, Foreign}
 use Rattle.coap.specs.declared.Frame.{Frame}
 use Rattle.decode.specs.Read.{groupOf}
-use Rattle.learn.specs.Learn.{learntOf, learntFrom}
+use Rattle.learn.specs.Learn.{learntOf, learntFrom, paddedIn}
 use Rattle.note.specs.Note.{nothingLearnt, redirectNoted, sessionNoted, reportNoted, groupAssigned, grouped, withGroup, groupNoted, validityNoted, signatureNoted, noted}
 use Rattle.note.specs.declared.Learnt.{Learnt}
 use Rattle.outgoing.specs.Sent.{registrationSent, reportSent}
@@ -35,12 +35,14 @@ use Rattle.state.specs.declared.Assigned.{Assigned}
 use Rattle.state.specs.declared.Device.{Device}
 use Rattle.state.specs.declared.Registration.{Registration}
 use Rattle.state.specs.declared.State.{State}
+use Rattle.run.specs.Post.{posted}
+use Rattle.step.specs.Step.{World}
 use Rattle.tlv.specs.Record.{Tlv, records, readable}
 use Rattle.calls.specs.Boot.{bootOf}
-use Rattle.calls.specs.Datagram.{Call, Effect, refusal, servedAs, served, replied, classed, received, datagramOf}
+use Rattle.calls.specs.Datagram.{Call, Effect, worldIn, withWorld, refusal, servedAs, served, replied, classed, received, datagramOf}
 use Rattle.calls.specs.Groups.{idHeld, idAfter, ByType, Nine, GroupsByType}
 use Rattle.calls.specs.Made.{Made}
-use Rattle.calls.specs.Own.{Sending, sending, sendingIf, roundOf, reports, reportOf}
+use Rattle.calls.specs.Own.{Sending, withRegistration, sending, sendingIf, roundOf, reports, reportOf}
 use Rattle.calls.proofs.AckSizes.{by-record, by-taken}
 use Rattle.calls.proofs.Sizes.{made-sized}
 use Rattle.calls.proofs.AckGroups.{from-moves}
@@ -106,8 +108,8 @@ module _ (s : State) (id : ℕ) (p : List ℕ) (time : Point) (verdict : ℕ) wh
 
   unaccepted : (s .registration .accepted ≡ true) ⊎ (acknowledged s id p time verdict .registration .accepted ≡ false)
       → acknowledged s id p time verdict .assigned ≡ s .assigned
-  unfolding acknowledged isAwaited
-  unaccepted (inl e) = rw e
+  unfolding acknowledged taken isAwaited
+  unaccepted (inl e) = split (s .device .«refuse_padding» && paddedIn p) (λ k. rw k) (λ k. rw (k, e))
   unaccepted (inr e) = leaves e
 
 ninth : (s : State) (p : List ℕ) (time : Point) → Made s → learntFrom (s .device) (s .registration) (s .assigned) time p .readable ≡ true
@@ -118,6 +120,16 @@ ninth s p time made =
     from-ninth (s .device) time (sized .device) (s .registration) (s .assigned) p
     (λ _. record { registration = sized .registration; assigned = sized .assigned })
 
+-- a part of the state that no record changes is left by every request
+module _ {A : Type 0} (part : State → A) (s : State) (image : List ℕ) (same : (w : World) → part (withWorld s w) ≡ part s) (c : Call) where
+  pub served-leaves : (payload ids : List ℕ) (a : Asks) → part (servedAs s image (c .store) payload (c .time) (c .verdict) ids a .state) ≡ part s
+  unfolding servedAs
+  served-leaves payload ids (Error code) = refl
+  served-leaves payload ids Posting = same (posted (s .device) (s .assigned .groups) (worldIn s image) payload (c .time) (c .verdict) .world)
+  served-leaves payload ids Index = refl
+  served-leaves payload ids (Record id) = refl
+  served-leaves payload ids Records = refl
+
 -- a datagram
 module _ (s : State) (image : List ℕ) (c : Call) where
   abbrev Assigns : State → Type 0
@@ -126,18 +138,10 @@ module _ (s : State) (image : List ℕ) (c : Call) where
       ⊎ ((f : Frame) × (frameOf (c .bytes) ≡ Whole f) × (classOf (f .kind) (f .code) ≡ Acknowledgement)
       × (x ≡ acknowledged s (f .id) (drop (f .payload) (c .bytes)) (c .time) (c .verdict)))
 
-  served-leaves : (payload ids : List ℕ) (a : Asks) → servedAs s image (c .store) payload (c .time) (c .verdict) ids a .state .assigned ≡ s .assigned
-  unfolding servedAs
-  served-leaves payload ids (Error code) = refl
-  served-leaves payload ids Posting = refl
-  served-leaves payload ids Index = refl
-  served-leaves payload ids (Record id) = refl
-  served-leaves payload ids Records = refl
-
   classed-assigns : (f : Frame) → frameOf (c .bytes) ≡ Whole f → (k : Class) → classOf (f .kind) (f .code) ≡ k
       → Assigns (classed s image (c .store) (c .bytes) f (c .time) (c .verdict) k .state)
   unfolding classed replied served
-  classed-assigns f e Request h = inl (served-leaves (drop (f .payload) (c .bytes)) _ (requestOf (c .bytes) f .asks))
+  classed-assigns f e Request h = inl (served-leaves (λ (x : State). x .assigned) s image (λ w. refl) c (drop (f .payload) (c .bytes)) _ (requestOf (c .bytes) f .asks))
   classed-assigns f e Acknowledgement h = inr (f, e, h, refl)
   classed-assigns f e Rejected h = inl refl
   classed-assigns f e Ignored h = inl refl
@@ -153,17 +157,17 @@ module _ (s : State) (image : List ℕ) (c : Call) where
   called =
       pick-both (λ (e : Effect). Assigns (e .state)) (eqb (refusal s image c) 0) _ _ (λ _. received-assigns (frameOf (c .bytes)) refl) (λ _. inl refl)
 
--- the agent's own datagrams
-module _ (s : State) (r : Registration) (refused : ℕ) where
+-- and one that registration does not change, by the agent's own datagrams
+module _ {A : Type 0} (part : State → A) (s : State) (r : Registration) (same : part (withRegistration s r) ≡ part s) (refused : ℕ) where
   abbrev Sends : Sending → Type 0
-  Sends x = x .state .assigned ≡ s .assigned
+  Sends x = part (x .state) ≡ part s
 
   sending-leaves : (bs : List ℕ) → Sends (sending s r bs)
   unfolding sending
   sending-leaves [] = refl
-  sending-leaves (b ∷ bs) = refl
+  sending-leaves (b ∷ bs) = same
 
-  own-leaves : (bs : List ℕ) → Sends (sendingIf s r refused bs)
+  pub own-leaves : (bs : List ℕ) → Sends (sendingIf s r refused bs)
   own-leaves bs = pick-both Sends (eqb refused 0) _ _ (λ _. sending-leaves bs) (λ _. refl)
 
 pub groups-by-type : GroupsByType
@@ -176,8 +180,8 @@ groups-by-type =
       called = called;
       rounded =
           λ s out store time.
-          own-leaves s (roundTaken (s .device) (s .registration)) (ownRefusal out store (not (s .registration .accepted)) 8) (registrationSent s store time);
+          own-leaves (λ (x : State). x .assigned) s (roundTaken (s .device) (s .registration)) refl (ownRefusal out store (not (s .registration .accepted)) 8) (registrationSent s store time);
       reported =
-          λ s out store time which. own-leaves s (idTaken (s .registration)) (ownRefusal out store (reports s which) 9) (reportSent s store time);
+          λ s out store time which. own-leaves (λ (x : State). x .assigned) s (idTaken (s .registration)) refl (ownRefusal out store (reports s which) 9) (reportSent s store time);
       booted = λ s. refl;
     }

@@ -6,5 +6,6 @@ pub mod AckNinth
 pub mod Sizes
 pub mod Groups
 pub mod Reports
+pub mod Padded
 pub mod Complete
 pub mod Merges

@@ -24,6 +24,7 @@ use Rattle.decimal.specs.Ids.{held}
 use Rattle.request.specs.Request.{requestOf}
 use Rattle.request.specs.declared.Asks.{Asks}
 use Rattle.request.specs.declared.Asks.the-variants.{Error, Post, Index, Record, Records}
+use Rattle.post.specs.Judge.{paddedIn}
 use Rattle.run.specs.Post.{postedAs, judgedAt, posted}
 use Rattle.run.specs.Run.{ran}
 use Rattle.step.specs.Step.{World, withFlash, blockTaken, act}
@@ -155,17 +156,17 @@ abbrev keptBy : Served → Kept
 keptBy v = record { state = v .state; image = v .image }
 
 module _ (k : Kept) (c : Call) where
-  by-judgement : (p : List ℕ) (j : Judgement)
-      → keptBy (servedPost (k .state) (postedAs (k .state .device) (worldIn (k .state) (k .image)) p j)) ≡ ranIn k (runsJudged p j)
+  by-judgement : (p : List ℕ) (b : Bool) (j : Judgement)
+      → keptBy (servedPost (k .state) (postedAs (k .state .device) (worldIn (k .state) (k .image)) p b j)) ≡ ranIn k (runsJudged p j)
   unfolding ran postedAs
-  by-judgement p (Erring code) = refl
-  by-judgement p Run = refl
+  by-judgement p b (Erring code) = refl
+  by-judgement p b Run = refl
 
   by-asks : (p ids : List ℕ) (a : Asks)
       → keptBy (servedAs (k .state) (k .image) (c .store) p (c .time) (c .verdict) ids a) ≡ ranIn k (runsAsked (k .state .device) (k .state .assigned .groups) c p a)
   unfolding ran servedAs posted
   by-asks p ids (Error code) = refl
-  by-asks p ids Post = by-judgement p (judgedAt (k .state .device) (k .state .assigned .groups) p (c .time) (c .verdict))
+  by-asks p ids Post = by-judgement p (paddedIn p) (judgedAt (k .state .device) (k .state .assigned .groups) p (c .time) (c .verdict))
   by-asks p ids Index = refl
   by-asks p ids (Record id) = refl
   by-asks p ids Records = refl

@@ -2,13 +2,13 @@
 use Prim.Native.Nat.{ℕ}
 use mathlib.Core.Path.{_≡_, refl, sym, ap, _∙_}
 use mathlib.Core.List.{List, [], _∷_}
-use mathlib.Core.Bool.{Bool, true, false, _&&_, true≢false}
+use mathlib.Core.Bool.{Bool, true, false, _&&_, and-false, true≢false}
 use mathlib.Core.Logic.{_⊎_, inl, inr}
 use mathlib.Core.Option.{Option, none, some}
 use borrow.Author.Tests.{leb-true}
 use lib.Dec.{eqb, leb, ltb}
 use lib.ListN.{length}
-use Rattle.ack.specs.Take.{isAwaited, isTakable, acceptedBy, takenBy, acknowledged}
+use Rattle.ack.specs.Take.{isAwaited, isTakable, acceptedBy, takenBy, taken, acknowledged}
 use Rattle.assign.specs.Assign.{inSession, withSession, withReport, holding}
 use Rattle.buffer.specs.Pick.{pick}
 use Rattle.buffer.specs.Stretch.{fits, stretch}
@@ -22,8 +22,8 @@ use Rattle.decode_report.specs.Report.{reportOf as readOf}
 use Rattle.decode_report.specs.Statements.{heartbeatAlone}
 use Rattle.decode_report.proofs.Theorems.{report-read}
 use Rattle.encode.specs.Write.{reportRecord}
-use Rattle.learn.specs.Learn.{learntOf, learntFrom}
-use Rattle.note.specs.Note.{nothingLearnt, withAssigned, redirectNoted, sessionNoted, reportNoted, groupAssigned, grouped, withGroup, groupNoted, validityNoted, signatureNoted, noted}
+use Rattle.learn.specs.Learn.{learntOf, learntFrom, paddedIn}
+use Rattle.note.specs.Note.{readingAt, nothingLearnt, withAssigned, redirectNoted, sessionNoted, reportNoted, groupAssigned, grouped, withGroup, groupNoted, validityNoted, signatureNoted, noted}
 use Rattle.note.specs.declared.Learnt.{Learnt}
 use Rattle.own.specs.Own.{reportShown}
 use Rattle.post.specs.Judge.{badlySigned}
@@ -41,8 +41,8 @@ use Rattle.state.specs.declared.Groups.{Groups}
 use Rattle.state.specs.declared.Registration.{Registration}
 use Rattle.state.specs.declared.State.{State}
 use Rattle.store.specs.Store.{acceptable}
-use Rattle.tables.specs.Table.{contents, alike, lastOne, valueOf, valuesOf, readBy, heldReadable, fieldReadable, allReadable, readableTo, readable, written, writeBy}
-use Rattle.tlv.specs.Record.{ofValue, ofKind, recordAt, recordStep, recordsFrom, Tlv, records, readable as wholly, recordBytes}
+use Rattle.tables.specs.Table.{contents, alike, lastOne, valueOf, valuesOf, readBy, heldTells, fieldTells, allReadable, readableTo, readable, anyPadded, paddedTo, padded, written, writeBy}
+use Rattle.tlv.specs.Record.{ofValue, ofKind, recordAt, recordStep, recordsFrom, Tlv, records, readable as wholly, paddedAmong, recordBytes}
 use Rattle.varint.specs.Varint.{spelt, varintAt, ofStretch, ofLength, delimitedAt, spelling, varint, two, delimited}
 use Rattle.calls.specs.Own.{Sending, unsent, reports, reportOf}
 use Rattle.calls.specs.Report.{subscriptionShown, shownAfter, FewEntries, SamePrimary, emptyReport, HeartbeatRetired}
@@ -155,7 +155,7 @@ module _ (s : State) (id : ℕ) (p : List ℕ) (time : Point) (verdict : ℕ) wh
       (λ r _ _. from-shown (s .device) time (s .registration) (s .assigned) p r)
 
 -- fields 3 and 4 alone
-alone-records : records (recordBytes 13 heartbeatAlone) ≡ record { kind = 13; value = heartbeatAlone } ∷ []
+alone-records : records (recordBytes 13 heartbeatAlone) ≡ record { kind = 13; value = heartbeatAlone; padded = false } ∷ []
 unfolding records recordsFrom recordStep recordAt ofKind ofValue varintAt spelt delimitedAt ofLength ofStretch stretch fits walk walkFor spelling varint two delimited
 alone-records = refl
 
@@ -164,8 +164,12 @@ unfolding wholly recordsFrom recordStep recordAt ofKind ofValue varintAt spelt d
 alone-whole = refl
 
 alone-read : readOf heartbeatAlone .reading .readable ≡ true
-unfolding readable readableTo allReadable fieldReadable heldReadable readBy valuesOf valueOf lastOne contents alike numbered held spanned contentAt ofTag fieldAt fieldStep fieldsFrom varintAt spelt delimitedAt ofLength ofStretch stretch fits walk walkFor
+unfolding readable readableTo allReadable fieldTells heldTells readBy valuesOf valueOf lastOne contents alike numbered held spanned contentAt ofTag fieldAt fieldStep fieldsFrom varintAt spelt delimitedAt ofLength ofStretch stretch fits walk walkFor
 alone-read = report-read heartbeatAlone .reading
+
+alone-unpadded : paddedIn (recordBytes 13 heartbeatAlone) ≡ false
+unfolding paddedIn paddedAmong readingAt readOf padded paddedTo anyPadded fieldTells heldTells contents numbered held spanned contentAt ofTag fieldAt fieldStep fieldsFrom varintAt spelt delimitedAt ofLength ofStretch stretch fits walk walkFor
+alone-unpadded = rw alone-records
 
 alone-shown : subscriptionShown heartbeatAlone ≡ emptyReport
 unfolding subscriptionShown readBy valuesOf valueOf lastOne contents alike idsAmong writeBy written ifAny each numbered held spanned contentAt ofTag fieldAt fieldStep fieldsFrom varintAt spelt delimitedAt ofLength ofStretch stretch fits walk walkFor spelling varint two delimited
@@ -179,9 +183,9 @@ alone-learnt d r a time = rw (alone-whole, alone-records, alone-read)
 alone : (s : State) (id : ℕ) (time : Point) → isAwaited (s .registration) id ≡ true → s .device .«signed_responses» ≡ false
     → (acknowledged s id (recordBytes 13 heartbeatAlone) time 0 .registration .accepted ≡ true)
     × (reportShown (acknowledged s id (recordBytes 13 heartbeatAlone) time 0 .assigned) ≡ emptyReport)
-unfolding acknowledged isTakable takenBy acceptedBy badlySigned
+unfolding acknowledged taken isTakable takenBy acceptedBy badlySigned
 alone s id time h g =
-    rw (h, alone-learnt (s .device) (s .registration) (s .assigned) time, g) (refl, of-report (s .assigned) heartbeatAlone alone-read ∙ alone-shown)
+    rw (alone-unpadded, and-false (s .device .«refuse_padding»), h, alone-learnt (s .device) (s .registration) (s .assigned) time, g) (refl, of-report (s .assigned) heartbeatAlone alone-read ∙ alone-shown)
 
 -- a heartbeat report is refused by 1, 4 or 9
 refused : (a b : Bool) (s : State) (x : Sending) → pick (eqb (pick a 1 (pick b 9 4)) 0) x (unsent (pick a 1 (pick b 9 4)) s) ≡ unsent (pick a 1 (pick b 9 4)) s

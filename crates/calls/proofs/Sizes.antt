@@ -25,8 +25,8 @@ use Rattle.loading.specs.Load.{withPending, isPending, openFault, sourceFault, 
 use Rattle.opening.specs.Open.{sizedTexts, isGiven, numberOr0, isWhole, isOurs, faultOf, openedBy, replaced, opens, openIf, transferTaken, transferAnswered}
 use Rattle.firmware.specs.Place.{isHash, hashAt, nameAt, versionAt}
 use Rattle.firmware.specs.declared.Answered.{Answered}
-use Rattle.post.specs.Judge.{lookedAt, judged}
-use Rattle.post.specs.Value.{isReadable}
+use Rattle.post.specs.Judge.{lookedAt, paddedIn, judgedAs}
+use Rattle.post.specs.Value.{readingAt, isReadable}
 use Rattle.post.specs.declared.Judgement.{Judgement}
 use Rattle.post.specs.declared.Judgement.the-variants.{Error as Refused, Run}
 use Rattle.protobuf.specs.Each.{Each}
@@ -61,7 +61,8 @@ use Rattle.transfer.proofs.Puts.{put-cases}
 use Rattle.calls.specs.Boot.{bootOf}
 use Rattle.class.specs.Class.{classOf}
 use Rattle.calls.specs.Datagram.{Call, Effect, worldIn, refusal, servedAs, served, replied, classed, received, datagramOf}
-use Rattle.calls.specs.Made.{Made, set, called, rounded, reported, booted as reborn, Between, DeviceSized, OpenSized, ImagesSized, RegistrationSized, Sized, MadeSized}
+use Rattle.calls.specs.Padding.{refusingPadding}
+use Rattle.calls.specs.Made.{Made, set, called, rounded, reported, booted as reborn, padding, Between, DeviceSized, OpenSized, ImagesSized, RegistrationSized, Sized, MadeSized}
 use Rattle.calls.proofs.OwnSizes.{round-sized, report-sized}
 use Rattle.calls.proofs.AckSizes.{redirect-sized, acknowledged-sized}
 use Rattle.class.specs.declared.Class.{Class}
@@ -281,8 +282,8 @@ pub record WorldSized (d : Device) (w : World) : Type 0 where
   pub images : ImagesSized d (w .images)
   pub registration : RegistrationSized d (w .registration)
 
-readable-redirect : (k : ℕ) (v : List ℕ) → eqb k 6 ≡ true → isReadable k v ≡ true → redirectOf v .reading .readable ≡ true
-unfolding isReadable
+readable-redirect : (k : ℕ) (v : List ℕ) → eqb k 6 ≡ true → readingAt k v .readable ≡ true → redirectOf v .reading .readable ≡ true
+unfolding readingAt
 readable-redirect k v e h = rw e at h
 
 abbrev Readable : Tlv → Type 0
@@ -327,17 +328,18 @@ module _ (d : Device) (sized : DeviceSized d) where
   ran-sized w [] h s = s
   ran-sized w (t ∷ ts) h s = ran-sized (act d w (t .kind) (t .value)) ts (h .1) (act-sized w (t .kind) (t .value) (h .0) s)
 
-  posted-as-sized : (w : World) (p : List ℕ) (j : Judgement) → (j ≡ Run → Each Readable (records p)) → WorldSized d w
-      → WorldSized d (postedAs d w p j .world)
+  posted-as-sized : (w : World) (p : List ℕ) (b : Bool) (j : Judgement) → (j ≡ Run → Each Readable (records p)) → WorldSized d w
+      → WorldSized d (postedAs d w p b j .world)
   unfolding postedAs
-  posted-as-sized w p (Refused code) h s = s
-  posted-as-sized w p Run h s = ran-sized w (records p) (h refl) s
+  posted-as-sized w p b (Refused code) h s = s
+  posted-as-sized w p b Run h s = ran-sized w (records p) (h refl) s
 
 posted-sized : (d : Device) (g : Groups) (w : World) (p : List ℕ) (time : Point) (verdict : ℕ) → DeviceSized d → WorldSized d w
     → WorldSized d (posted d g w p time verdict .world)
 unfolding posted judgedAt
 posted-sized d g w p time verdict k s =
-    posted-as-sized d k w p (judged (lookedAt g time p) verdict (d .«signed_posts»)) (run-readable g time p verdict (d .«signed_posts»)) s
+    posted-as-sized d k w p (paddedIn p) (judgedAs (d .«refuse_padding») (paddedIn p) (lookedAt g time p) verdict (d .«signed_posts»))
+    (run-readable g time p verdict (d .«signed_posts») (d .«refuse_padding»)) s
 
 module _ (s : State) (image : List ℕ) (sized : Sized s) where
   pub world-sized : WorldSized (s .device) (worldIn s image)
@@ -389,12 +391,35 @@ boot-sized s k =
       registration = record { url = k .device .home; interval = (omega arith, k .device .low .1) };
     }
 
+-- what is promised of sizes does not go by padding
+refusing-sized : (s : State) (on : Bool) → Sized s → Sized (refusingPadding s on)
+unfolding refusingPadding
+refusing-sized s on k =
+    let d = k .device in
+    let i = k .images in
+    record {
+      device = record { hw = d .hw; vendor = d .vendor; home = d .home; image = d .image; low = d .low; high = d .high };
+      images =
+          record {
+            running = i .running;
+            opened =
+                λ o. let x = i .opened o in
+                record { hash = x .hash; name = x .name; version = x .version; size = x .size; each = x .each; count = x .count; bitmap = x .bitmap; spare = x .spare };
+            number = i .number;
+            pending = i .pending;
+            backup = i .backup;
+          };
+      assigned = k .assigned;
+      registration = record { url = k .registration .url; interval = k .registration .interval };
+    }
+
 made : {s : State} → Made s → Sized s
 made (set hw vendor running url s e) = setup-sized hw vendor running url s e
 made (called {s} m image c) = datagram-sized s image (made m) c
 made (rounded {s} m out store time) = round-sized s out store time (made m)
 made (reported {s} m out store time which) = report-sized s out store time which (made m)
 made (reborn {s} m) = boot-sized s (made m)
+made (padding {s} m on) = refusing-sized s on (made m)
 
 pub made-sized : MadeSized
 made-sized s m = made m

@@ -1,8 +1,10 @@
 pub mod Datagram
 pub mod Own
 pub mod Boot
+pub mod Padding
 pub mod Made
 pub mod Groups
 pub mod Report
+pub mod Padded
 pub mod Complete
 pub mod Merge

@@ -1,8 +1,8 @@
--- The states that setup and calls make, and what document 01, "Sizes", and document 02, Q-2 and Q-3, promise of them.
+-- The states that setup and calls make, and what document 01, "Sizes", and document 02, Q-2 and Q-3, promise of them; padding refused or not, Q-8.
 use Prim.Native.Nat.{ℕ, _≤_}
 use mathlib.Core.Path.{_≡_}
 use mathlib.Core.List.{List}
-use mathlib.Core.Bool.{true, false}
+use mathlib.Core.Bool.{Bool, true, false}
 use lib.ListN.{length}
 use Rattle.csmp.specs.declared.Image.{Image}
 use Rattle.outgoing.specs.declared.Report.{Report}
@@ -20,6 +20,7 @@ use Rattle.transfer.specs.Blocks.{blocks}
 use Rattle.calls.specs.Boot.{bootOf}
 use Rattle.calls.specs.Datagram.{Call, datagramOf}
 use Rattle.calls.specs.Own.{roundOf, reportOf}
+use Rattle.calls.specs.Padding.{refusingPadding}
 
 -- only setup and calls make states
 pub data Made : State → Type 0 where
@@ -29,6 +30,7 @@ pub data Made : State → Type 0 where
   rounded : {s : State} → Made s → (out : ℕ) (store : List ℕ) (time : Point) → Made (roundOf s out store time .state)
   reported : {s : State} → Made s → (out : ℕ) (store : List ℕ) (time : Point) (which : Report) → Made (reportOf s out store time which .state)
   booted : {s : State} → Made s → Made (bootOf s)
+  padding : {s : State} → Made s → (on : Bool) → Made (refusingPadding s on)
 
 abbrev pub Between : ℕ → ℕ → ℕ → Type 0
 Between low n high = (low ≤ n) × (n ≤ high)

@@ -5,7 +5,7 @@ use mathlib.Core.List.{List, [], _∷_, map}
 use mathlib.Core.Bool.{_&&_}
 use mathlib.Core.Option.{Option, none, some}
 use Rattle.protobuf.specs.Given.{numberGiven, flagGiven, bytesGiven}
-use Rattle.tables.specs.Table.{readable, readBy}
+use Rattle.tables.specs.Table.{readable, padded, readBy}
 use Rattle.csmp.specs.Named.{momentGiven, short, Sample, alone, flagged}
 use Rattle.csmp.specs.Tables.{redirect, session, group, signatureValidity, signature}
 use Rattle.decode.specs.Read.{redirectOf, sessionOf, groupOf, validityOf, signatureOf}
@@ -13,23 +13,27 @@ use Rattle.decode.specs.Read.{redirectOf, sessionOf, groupOf, validityOf
 -- 6 NMSRedirectRequest
 pub record RedirectRead (v : List ℕ) : Type 0 where
   pub reading : redirectOf v .reading .readable ≡ (readable redirect v && short 128 (readBy redirect v .0))
+  pub padding : redirectOf v .reading .padded ≡ padded redirect v
   pub url : bytesGiven v (redirectOf v .url) ≡ readBy redirect v .0
   pub immediate : flagGiven (redirectOf v .immediate) ≡ readBy redirect v .1 .0
 
 -- 7 SessionID
 pub record SessionRead (v : List ℕ) : Type 0 where
   pub reading : sessionOf v .reading .readable ≡ (readable session v && short 64 (readBy session v .0))
+  pub padding : sessionOf v .reading .padded ≡ padded session v
   pub id : bytesGiven v (sessionOf v .id) ≡ readBy session v .0
 
 -- 55 GroupAssign, 57 GroupMatch
 pub record GroupRead (v : List ℕ) : Type 0 where
   pub reading : groupOf v .reading .readable ≡ readable group v
+  pub padding : groupOf v .reading .padded ≡ padded group v
   pub type : numberGiven (groupOf v .kind) ≡ readBy group v .0
   pub id : numberGiven (groupOf v .id) ≡ readBy group v .1 .0
 
 -- 76 SignatureValidity
 pub record ValidityRead (v : List ℕ) : Type 0 where
   pub reading : validityOf v .reading .readable ≡ readable signatureValidity v
+  pub padding : validityOf v .reading .padded ≡ padded signatureValidity v
   pub notBefore : momentGiven (validityOf v .«not_before») ≡ readBy signatureValidity v .0
   pub notAfter : momentGiven (validityOf v .«not_after») ≡ readBy signatureValidity v .1 .0
 
@@ -39,7 +43,7 @@ pub record ReadByTables : Type 0 where
   pub sessions : (v : List ℕ) → SessionRead v
   pub groups : (v : List ℕ) → GroupRead v
   pub validities : (v : List ℕ) → ValidityRead v
-  pub signatures : (v : List ℕ) → signatureOf v .readable ≡ readable signature v
+  pub signatures : (v : List ℕ) → (signatureOf v .readable ≡ readable signature v) × (signatureOf v .padded ≡ padded signature v)
 
 -- samples with document 000's field numbers: url "u", immediate not 0
 abbrev pub redirectSample : List ℕ

@@ -2,9 +2,10 @@
 use Prim.Native.Nat.{ℕ}
 use mathlib.Core.Path.{_≡_}
 use mathlib.Core.List.{List, [], _∷_, _++_, map}
+use mathlib.Core.Bool.{Bool, true, false}
 use mathlib.Core.Option.{Option, none, some}
 use Rattle.protobuf.specs.Given.{numberGiven, bytesGiven}
-use Rattle.tables.specs.Table.{readable, readBy}
+use Rattle.tables.specs.Table.{Table, readable, padded, readBy}
 use Rattle.csmp.specs.Named.{momentGiven, inPart, Sample, alone, sampleHash}
 use Rattle.csmp.specs.Tables.{transferRequest, imageBlock, loadRequest, imageHash}
 use Rattle.decode_image.specs.Read.{transferOf, blockOf, loadOf, hashOf}
@@ -12,6 +13,7 @@ use Rattle.decode_image.specs.Read.{transferOf, blockOf, loadOf, hashOf}
 -- 65 TransferRequest
 pub record TransferRead (v : List ℕ) : Type 0 where
   pub reading : transferOf v .reading .readable ≡ readable transferRequest v
+  pub padding : transferOf v .reading .padded ≡ padded transferRequest v
   pub hwId : bytesGiven v (transferOf v .«hw_id») ≡ inPart (λ h. h .0) (readBy transferRequest v .0)
   pub vendorHwId : bytesGiven v (transferOf v .«vendor_hw_id») ≡ inPart (λ h. h .1 .0) (readBy transferRequest v .0)
   pub fileHash : bytesGiven v (transferOf v .hash) ≡ readBy transferRequest v .1 .0
@@ -23,6 +25,7 @@ pub record TransferRead (v : List ℕ) : Type 0 where
 -- 67 ImageBlock
 pub record BlockRead (v : List ℕ) : Type 0 where
   pub reading : blockOf v .reading .readable ≡ readable imageBlock v
+  pub padding : blockOf v .reading .padded ≡ padded imageBlock v
   pub fileHash : bytesGiven v (blockOf v .hash) ≡ readBy imageBlock v .0
   pub blockNum : numberGiven (blockOf v .number) ≡ readBy imageBlock v .1 .0
   pub blockData : bytesGiven v (blockOf v .«data») ≡ readBy imageBlock v .1 .1 .0
@@ -30,12 +33,14 @@ pub record BlockRead (v : List ℕ) : Type 0 where
 -- 68 LoadRequest
 pub record LoadRead (v : List ℕ) : Type 0 where
   pub reading : loadOf v .reading .readable ≡ readable loadRequest v
+  pub padding : loadOf v .reading .padded ≡ padded loadRequest v
   pub fileHash : bytesGiven v (loadOf v .hash) ≡ readBy loadRequest v .0
   pub loadTime : momentGiven (loadOf v .time) ≡ readBy loadRequest v .1 .0
 
 -- 69 CancelLoadRequest, 70 SetBackupRequest
 pub record HashRead (v : List ℕ) : Type 0 where
   pub reading : hashOf v .reading .readable ≡ readable imageHash v
+  pub padding : hashOf v .reading .padded ≡ padded imageHash v
   pub fileHash : bytesGiven v (hashOf v .hash) ≡ readBy imageHash v .0
 
 -- all of them
@@ -99,3 +104,28 @@ samples =
 
 abbrev pub Samples : Type 0
 Samples = map (λ (x : Sample). x .is) samples ≡ map (λ (x : Sample). x .should) samples
+
+-- document 02, Q-8: what counts as padded in a value
+pub record Padding : Type 0 where
+  pub table : Table
+  pub bytes : List ℕ
+  pub means : Bool
+
+-- by imageHash: fileHash; its tag padded; its length; the number of field 15, which is skipped; its tag; its length; its bytes don't count. By
+-- transferRequest: a tag within hwInfo; the number of a field 1 that is no message, skipped; the bytes of fileName don't count
+unfoldable pub paddings : List Padding
+paddings =
+    record { table = imageHash; bytes = 0x0A ∷ 0x00 ∷ []; means = false }
+    ∷ record { table = imageHash; bytes = 0x8A ∷ 0x00 ∷ 0x00 ∷ []; means = true }
+    ∷ record { table = imageHash; bytes = 0x0A ∷ 0x80 ∷ 0x00 ∷ []; means = true }
+    ∷ record { table = imageHash; bytes = 0x78 ∷ 0x83 ∷ 0x00 ∷ []; means = true }
+    ∷ record { table = imageHash; bytes = 0xF8 ∷ 0x00 ∷ 0x03 ∷ []; means = true }
+    ∷ record { table = imageHash; bytes = 0x7A ∷ 0x80 ∷ 0x00 ∷ []; means = true }
+    ∷ record { table = imageHash; bytes = 0x7A ∷ 0x02 ∷ 0x81 ∷ 0x00 ∷ []; means = false }
+    ∷ record { table = transferRequest; bytes = 0x0A ∷ 0x03 ∷ 0x8A ∷ 0x00 ∷ 0x00 ∷ []; means = true }
+    ∷ record { table = transferRequest; bytes = 0x08 ∷ 0x81 ∷ 0x00 ∷ []; means = true }
+    ∷ record { table = transferRequest; bytes = 0x1A ∷ 0x02 ∷ 0x8A ∷ 0x00 ∷ []; means = false }
+    ∷ []
+
+abbrev pub Paddings : Type 0
+Paddings = map (λ (x : Padding). padded (x .table) (x .bytes)) paddings ≡ map (λ (x : Padding). x .means) paddings

@@ -24,7 +24,7 @@ use Rattle.decimal.specs.declared.Id.the-variants.{Given as Spells, Nothing}
 use Rattle.decimal.specs.declared.Ids.{Ids}
 use Rattle.tables.specs.Found.{Cell, noneHeld, noneFound, placed, cellWith, eachIn, heldWith, foundWith, foundIn}
 use Rattle.tables.specs.Statements.{counted}
-use Rattle.tables.specs.Table.{contents, alike, valueOf, valuesOf, heldReadable, fieldReadable, allReadable, readableTo, readable, readBy}
+use Rattle.tables.specs.Table.{contents, alike, valueOf, valuesOf, heldTells, fieldTells, allReadable, readableTo, readable, readBy}
 use Rattle.tables.proofs.TableTells.{tells}
 use Rattle.csmp.specs.Tables.{reportSubscribe}
 use Rattle.csmp.specs.Values.{intervalOf, intervalNumber}
@@ -70,10 +70,11 @@ report-read v =
     let e = ap (_&&_ (readable reportSubscribe v)) (ap₂ _&&_ (few-by (f .1 .0 .0) _ (t .1 .0)) (few-by (f .1 .1 .1 .0 .0) _ (t .1 .1 .1 .0))) in
     record {
       reading = e;
+      padding = refl;
       interval = interval-back _ ∙ t .0;
       ids = λ h. listed _ (leb-true _ 32 (both (leb (length (r .1 .0)) 32) _ (both (readable reportSubscribe v) _ (sym e ∙ h) .1) .0));
     }
 
 pub samples-read : Samples
-unfolding samples each few heldReadable fieldReadable allReadable readableTo readable reportOf withId withEntry withEntries intervalOf intervalNumber contents alike valueOf valuesOf readBy allDigits digits digitsOf zeroOr idOf pushed noneHeld noneFound placed cellWith eachIn heldWith foundWith foundIn wireOf countMore numberOf flagOf placeOf numbered bytesHeld spanned contentAt ofTag fieldAt fieldStep fieldsFrom more spelt varintAt ofStretch ofLength delimitedAt fits stretch walkFor walk
+unfolding samples each few heldTells fieldTells allReadable readableTo readable reportOf withId withEntry withEntries intervalOf intervalNumber contents alike valueOf valuesOf readBy allDigits digits digitsOf zeroOr idOf pushed noneHeld noneFound placed cellWith eachIn heldWith foundWith foundIn wireOf countMore numberOf flagOf placeOf numbered bytesHeld spanned contentAt ofTag fieldAt fieldStep fieldsFrom more spelt varintAt ofStretch ofLength delimitedAt fits stretch walkFor walk
 samples-read = refl

@@ -9,7 +9,7 @@ use lib.Dec.{leb}
 use Rattle.decimal.specs.Decimal.{idsAmong}
 use Rattle.decimal.specs.Ids.{held}
 use Rattle.protobuf.specs.Write.{each}
-use Rattle.tables.specs.Table.{readable, readBy}
+use Rattle.tables.specs.Table.{readable, padded, readBy}
 use Rattle.csmp.specs.Named.{intervalGiven, Sample, alone, flagged}
 use Rattle.csmp.specs.Tables.{reportSubscribe}
 use Rattle.decode_report.specs.Report.{reportOf}
@@ -18,6 +18,7 @@ use Rattle.decode_report.specs.Report.{reportOf}
 pub record ReportRead (v : List ℕ) : Type 0 where
   pub reading : reportOf v .reading .readable
       ≡ (readable reportSubscribe v && (leb (length (readBy reportSubscribe v .1 .0)) 32 && leb (length (readBy reportSubscribe v .1 .1 .1 .0)) 32))
+  pub padding : reportOf v .reading .padded ≡ padded reportSubscribe v
   pub interval : intervalGiven (reportOf v .interval) ≡ readBy reportSubscribe v .0
   pub ids : reportOf v .reading .readable ≡ true → held (reportOf v .ids) ≡ idsAmong (readBy reportSubscribe v .1 .0)
 

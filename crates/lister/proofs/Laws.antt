@@ -8,7 +8,7 @@ use lib.ListN.{length, take, drop, getD, length-take}
 use lib.Seq.{sets-eq, take-suc, take-all, take-append-seam}
 use Rattle.agent.specs.Left.{Left}
 use Rattle.calls.specs.Datagram.{Effect}
-use Rattle.reply.specs.declared.Answer.{Answer}
+use Rattle.reply.specs.declared.DatagramAnswer.{DatagramAnswer}
 use Rattle.buffer.specs.Put.{Put, Appended}
 use Rattle.buffer.proofs.Puts.{appended-put, appended-none, appended-join}
 use Rattle.decimal.specs.Decimal.{decimal}
@@ -89,7 +89,7 @@ refusal-join outcome p q r t =
     (appended-join (field outcome) (field 0 ++ (45 ∷ 10 ∷ [])) q (appended-join (field 0) (45 ∷ 10 ∷ []) r (appended-put t)))
 
 -- what the call leaves at the front of its output is its reply
-module _ (e : Effect) {zeros buf flash : List ℕ} {a : Answer} (l : Left e zeros a flash buf) (z : length zeros ≡ 1280) where
+module _ (e : Effect) {zeros buf flash : List ℕ} {a : DatagramAnswer} (l : Left e zeros a flash buf) (z : length zeros ≡ 1280) where
   pub reply-short : length (take (a .len) buf) ≤ 1280
   reply-short =
       let k = l .answer .small in

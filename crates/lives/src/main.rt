@@ -1,7 +1,7 @@
 // Plays the lives of devices: each line on standard input is a call of the agent, printed again with what it answers.
 //
 // A life's calls go on from one state. Bytes are in hex, numbers decimal, `-` is none. A line `store` holds a store for
-// calls that say `store=held`. Some lines only look: `image` at the open image, `progress` at how far it is, `complete`
+// calls that say `store=held`. `padding` is the host's call about padded varints. Some lines only look: `image` at the open image, `progress` at how far it is, `complete`
 // at whether none of its blocks is missing, `look` at the URL held and the front of the image buffer. Other lines are
 // printed as they are. No answer was taken from this program: they are those of models written from documents 01 and 02.
 // The first lives came with the order (waits, rounds, acknowledgements, redirects, reports, loads, boots; signed
@@ -70,6 +70,7 @@ fn datagram(state: State, image: &mut [u8], out: &mut [u8], store: &[u8], line: 
     let r = agent::datagram(state, image, out, given, store, script::time(line), verdict);
     show::number(b" -> outcome=", r.outcome as u64);
     show::bytes(b" reply=", out, r.len);
+    show::number(b" padded=", r.padded as u64);
     r.state
 }
 
@@ -127,6 +128,9 @@ fn act(state: State, image: &mut [u8], line: &[u8], hex: &[u8]) -> State {
     }
     if script::stands(line, 0, b"boot") {
         return agent::boot(state);
+    }
+    if script::stands(line, 0, b"padding ") {
+        return agent::refuse_padding(state, script::number(line, b" refused=") == 1);
     }
     ask(state, image, line, hex)
 }

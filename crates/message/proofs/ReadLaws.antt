@@ -2,7 +2,7 @@
 use Prim.Native.Nat.{ℕ, zero, suc, _+_, _-_, _≤_, _<_}
 use mathlib.Core.Path.{_≡_, refl, sym, ap, _∙_}
 use mathlib.Core.List.{List, [], _∷_, _++_}
-use mathlib.Core.Bool.{Bool, true, false, _&&_}
+use mathlib.Core.Bool.{Bool, true, false}
 use native.Mathlib.Numerals.{sub-one}
 use borrow.Author.Tests.{eq-eqb, ne-eqb, lt-ltb, le-ltb}
 use native.Mathlib.Omega.{arith}
@@ -10,28 +10,28 @@ use borrow.Rule.Slice.PartMut.{putMid, post-is}
 use lib.ListN.{length, take, drop, length-set, length-take, length-drop}
 use Rattle.buffer.specs.Walk.{Walked}
 use Rattle.protobuf.specs.Field.{fields, bytesOf, fieldsFrom}
-use Rattle.message.specs.Read.{wireOf, rowIn, noted, Scan, scanned, heldRead, knownRead, fieldRead, allRead, messageRead, readInto, Scanned}
+use Rattle.message.specs.Read.{wireOf, rowIn, noted, unpadded, joined, sealed, Scan, scanned, heldRead, knownRead, fieldRead, allRead, messageRead, readInto, Scanned}
 use Rattle.protobuf.specs.declared.Field.{Field}
 use Rattle.message.specs.declared.Known.the-variants.{Row as Knows, Nothing}
 use Rattle.message.specs.declared.Reading.{Reading}
 
 -- what a call leaves, by an equation
-pub leaves : {x : Scan} {r : Reading} {left : List ℕ} (t : Bool) (cells : List ℕ) → x ≡ scanned t cells → r .readable ≡ t → left ≡ cells → Scanned x r left
-leaves t cells e p q = record { readable = p ∙ ap (λ (y : Scan). y .readable) (sym e); cells = q ∙ ap (λ (y : Scan). y .cells) (sym e) }
+pub leaves : {x : Scan} {r : Reading} {left : List ℕ} (t : Reading) (cells : List ℕ) → x ≡ scanned t cells → r ≡ t → left ≡ cells → Scanned x r left
+leaves t cells e p q = record { reading = p ∙ ap (λ (y : Scan). y .reading) (sym e); cells = q ∙ ap (λ (y : Scan). y .cells) (sym e) }
 
 -- a field, by what the table says of its number
 module _ (read : List ℕ → List ℕ → ℕ → List ℕ → Scan) (table cells : List ℕ) (base : ℕ) (s : List ℕ) (f : Field) where
-  pub field-unknown : rowIn table (f .number) ≡ Nothing → fieldRead read table cells base s f ≡ scanned true cells
+  pub field-unknown : rowIn table (f .number) ≡ Nothing → fieldRead read table cells base s f ≡ scanned (unpadded true) cells
   unfolding fieldRead knownRead
   field-unknown e = rw e
 
   module _ (kind i e : ℕ) (k : rowIn table (f .number) ≡ Knows kind i e) where
-    pub field-other : (wireOf kind ≡ f .wire → ⊥) → fieldRead read table cells base s f ≡ scanned true cells
+    pub field-other : (wireOf kind ≡ f .wire → ⊥) → fieldRead read table cells base s f ≡ scanned (unpadded true) cells
     unfolding fieldRead knownRead
     field-other h = rw (k, ne-eqb (wireOf kind) (f .wire) h)
 
     module _ (h : wireOf kind ≡ f .wire) where
-      pub field-noted : kind < 11 → fieldRead read table cells base s f ≡ scanned true (noted cells i base f)
+      pub field-noted : kind < 11 → fieldRead read table cells base s f ≡ scanned (unpadded true) (noted cells i base f)
       unfolding fieldRead knownRead
       field-noted l = rw (k, eq-eqb (wireOf kind) (f .wire) h, lt-ltb kind 11 l)
 
@@ -41,32 +41,32 @@ module _ (read : List ℕ → List ℕ → ℕ → List ℕ → Scan) (table cel
       field-held l = rw (k, eq-eqb (wireOf kind) (f .wire) h, le-ltb kind 11 l)
 
 -- the fields walked over, to the end
-abbrev pub remaining : (List ℕ → List ℕ → ℕ → List ℕ → Scan) → List ℕ → ℕ → List ℕ → Bool → List ℕ → Walked Field → Scan
-remaining read table base s readable cells x = allRead read table base s readable cells (x .whole) (x .items)
+abbrev pub remaining : (List ℕ → List ℕ → ℕ → List ℕ → Scan) → List ℕ → ℕ → List ℕ → Reading → List ℕ → Walked Field → Scan
+remaining read table base s told cells x = allRead read table base s told cells (x .whole) (x .items)
 
-module _ (read : List ℕ → List ℕ → ℕ → List ℕ → Scan) (table : List ℕ) (base : ℕ) (s : List ℕ) (readable whole : Bool) (cells : List ℕ) where
-  pub all-ended : allRead read table base s readable cells whole [] ≡ scanned (whole && readable) cells
+module _ (read : List ℕ → List ℕ → ℕ → List ℕ → Scan) (table : List ℕ) (base : ℕ) (s : List ℕ) (told : Reading) (whole : Bool) (cells : List ℕ) where
+  pub all-ended : allRead read table base s told cells whole [] ≡ scanned (sealed whole told) cells
   unfolding allRead
   all-ended = refl
 
-  pub all-more : (f : Field) (fs : List Field) (t : Bool) (after : List ℕ) (r : Reading) → Scanned (fieldRead read table cells base s f) r after → t ≡ (readable && r .readable)
-      → allRead read table base s readable cells whole (f ∷ fs) ≡ allRead read table base s t after whole fs
+  pub all-more : (f : Field) (fs : List Field) (t : Reading) (after : List ℕ) (r : Reading) → Scanned (fieldRead read table cells base s f) r after → t ≡ joined told (f .padded) r
+      → allRead read table base s told cells whole (f ∷ fs) ≡ allRead read table base s t after whole fs
   unfolding allRead
-  all-more f fs t after r x e = rw (e, x .readable, x .cells)
+  all-more f fs t after r x e = rw (e, x .reading, x .cells)
 
 -- a message, by the levels that are left
-pub message-none : (depth : ℕ) (table cells : List ℕ) (base : ℕ) (s : List ℕ) → depth ≡ 0 → messageRead depth table cells base s ≡ scanned false cells
+pub message-none : (depth : ℕ) (table cells : List ℕ) (base : ℕ) (s : List ℕ) → depth ≡ 0 → messageRead depth table cells base s ≡ scanned (unpadded false) cells
 unfolding messageRead
 message-none depth table cells base s h = rw h
 
 pub message-fields : (depth : ℕ) (table cells : List ℕ) (base : ℕ) (s : List ℕ) → (depth ≡ 0 → ⊥)
-    → messageRead depth table cells base s ≡ remaining (messageRead (depth - 1)) table base s true cells (fieldsFrom s 0)
+    → messageRead depth table cells base s ≡ remaining (messageRead (depth - 1)) table base s (unpadded true) cells (fieldsFrom s 0)
 unfolding messageRead
 message-fields zero table cells base s h = absurd (h refl)
 message-fields (suc d) table cells base s h = rw (sub-one (suc d))
 
 -- a whole value
-pub into-other : (table cells s : List ℕ) → (length cells ≡ length table → ⊥) → readInto table cells s ≡ scanned false cells
+pub into-other : (table cells s : List ℕ) → (length cells ≡ length table → ⊥) → readInto table cells s ≡ scanned (unpadded false) cells
 unfolding readInto
 into-other table cells s h = rw (ne-eqb (length cells) (length table) h)
 
@@ -95,6 +95,6 @@ module _ (read : List ℕ → List ℕ → ℕ → List ℕ → Scan) (table cel
   field-into x =
       let a = i + 3 in
       let z = read (take (e - a) (drop a table)) (take (e - a) (drop a after)) (base + f .start) (bytesOf s f) in
-      leaves (z .readable) (take a after ++ (z .cells ++ drop e after))
-      (field-held read table cells base s f kind i e k h l ∙ ap (λ (c : List ℕ). heldRead read table c a e (base + f .start) (bytesOf s f)) (sym n)) (x .readable)
+      leaves (z .reading) (take a after ++ (z .cells ++ drop e after))
+      (field-held read table cells base s f kind i e k h l ∙ ap (λ (c : List ℕ). heldRead read table c a e (base + f .start) (bytesOf s f)) (sym n)) (x .reading)
       (rw (post-is a e after w, x .cells))

@@ -1,9 +1,9 @@
 -- Reading a message by its table in one walk, document 01, "Records and fields": unknown fields, and known ones with another wire type, are
--- skipped; the last one wins; the parts of a nested message merge; nesting stops at 4.
+-- skipped; the last one wins; the parts of a nested message merge; nesting stops at 4. Document 02, Q-8: a varint that is read is padded or not.
 use Prim.Native.Nat.{ℕ, zero, suc, _+_, _-_, _%_, _^_}
 use mathlib.Core.Path.{_≡_}
 use mathlib.Core.List.{List, [], _∷_, _++_}
-use mathlib.Core.Bool.{Bool, true, false, not, _&&_}
+use mathlib.Core.Bool.{Bool, true, false, not, _&&_, _||_}
 use lib.ListN.{length, getD, set, take, drop}
 use lib.Dec.{eqb, ltb}
 use Rattle.buffer.specs.Pick.{pick}
@@ -61,17 +61,29 @@ firstOf base f = pick (eqb (f .wire) 0) (f .value) (base + f .start)
 unfoldable pub noted : List ℕ → ℕ → ℕ → Field → List ℕ
 noted cells i base f = set (set (set cells i (countMore (getD cells i 0))) (i + 1) (firstOf base f)) (i + 2) (base + f .end)
 
--- whether all could be read, and what was found
+-- what is told where nothing was padded
+abbrev pub unpadded : Bool → Reading
+unpadded readable = record { readable = readable; padded = false }
+
+-- a field more: it is padded or not, and what it holds tells the rest
+abbrev pub joined : Reading → Bool → Reading → Reading
+joined before padded held = record { readable = before .readable && held .readable; padded = before .padded || (padded || held .padded) }
+
+-- the end of the fields: one that can't be read makes the message unreadable
+abbrev pub sealed : Bool → Reading → Reading
+sealed whole x = record { readable = whole && x .readable; padded = x .padded }
+
+-- what is told of all, and what was found
 pub record Scan : Type 0 where
-  pub readable : Bool
+  pub reading : Reading
   pub cells : List ℕ
 
-abbrev pub scanned : Bool → List ℕ → Scan
-scanned readable cells = record { readable = readable; cells = cells }
+abbrev pub scanned : Reading → List ℕ → Scan
+scanned reading cells = record { reading = reading; cells = cells }
 
 -- what was found of the rows from a up to e, put back in its place
 abbrev pub spliced : List ℕ → ℕ → ℕ → Scan → Scan
-spliced cells a e x = scanned (x .readable) (take a cells ++ (x .cells ++ drop e cells))
+spliced cells a e x = scanned (x .reading) (take a cells ++ (x .cells ++ drop e cells))
 
 -- a message that begins at `base` of the whole value: by a table, over what was found before
 module _ (read : List ℕ → List ℕ → ℕ → List ℕ → Scan) where
@@ -83,36 +95,36 @@ module _ (read : List ℕ → List ℕ → ℕ → List ℕ → Scan) where
   unfoldable pub knownRead : List ℕ → List ℕ → ℕ → List ℕ → Field → Known → Scan
   knownRead table cells base s f (Knows kind i e) =
       pick (eqb (wireOf kind) (f .wire))
-      (pick (ltb kind 11) (scanned true (noted cells i base f)) (heldRead table (noted cells i base f) (i + 3) e (base + f .start) (bytesOf s f)))
-      (scanned true cells)
-  knownRead table cells base s f Nothing = scanned true cells
+      (pick (ltb kind 11) (scanned (unpadded true) (noted cells i base f)) (heldRead table (noted cells i base f) (i + 3) e (base + f .start) (bytesOf s f)))
+      (scanned (unpadded true) cells)
+  knownRead table cells base s f Nothing = scanned (unpadded true) cells
 
   unfoldable pub fieldRead : List ℕ → List ℕ → ℕ → List ℕ → Field → Scan
   fieldRead table cells base s f = knownRead table cells base s f (rowIn table (f .number))
 
-  -- the fields one by one; a held message that can't be read makes the value unreadable, and the fields behind it are still noted
-  unfoldable pub allRead : List ℕ → ℕ → List ℕ → Bool → List ℕ → Bool → List Field → Scan
-  allRead table base s readable cells whole [] = scanned (whole && readable) cells
-  allRead table base s readable cells whole (f ∷ fs) =
-      allRead table base s (readable && fieldRead table cells base s f .readable) (fieldRead table cells base s f .cells) whole fs
+  -- the fields one by one, skipped ones too; a held message that can't be read makes the value unreadable, and the fields behind it are still noted
+  unfoldable pub allRead : List ℕ → ℕ → List ℕ → Reading → List ℕ → Bool → List Field → Scan
+  allRead table base s told cells whole [] = scanned (sealed whole told) cells
+  allRead table base s told cells whole (f ∷ fs) =
+      allRead table base s (joined told (f .padded) (fieldRead table cells base s f .reading)) (fieldRead table cells base s f .cells) whole fs
 
 -- a message of at most so many levels, itself the first
 unfoldable pub messageRead : ℕ → List ℕ → List ℕ → ℕ → List ℕ → Scan
-messageRead zero table cells base s = scanned false cells
-messageRead (suc d) table cells base s = allRead (messageRead d) table base s true cells (fields s .whole) (fields s .items)
+messageRead zero table cells base s = scanned (unpadded false) cells
+messageRead (suc d) table cells base s = allRead (messageRead d) table base s (unpadded true) cells (fields s .whole) (fields s .items)
 
 -- a whole value, where what is found has a place for each row
 unfoldable pub readInto : List ℕ → List ℕ → List ℕ → Scan
-readInto table cells s = pick (eqb (length cells) (length table)) (messageRead 4 table cells 0 s) (scanned false cells)
+readInto table cells s = pick (eqb (length cells) (length table)) (messageRead 4 table cells 0 s) (scanned (unpadded false) cells)
 
 -- what a call leaves
 pub record Scanned (x : Scan) (r : Reading) (left : List ℕ) : Type 0 where
-  pub readable : r .readable ≡ x .readable
+  pub reading : r ≡ x .reading
   pub cells : left ≡ x .cells
 
 -- a message that must also be within a limit
 abbrev pub limited : Reading → Bool → Reading
-limited x within = record { readable = x .readable && within }
+limited x within = record { readable = x .readable && within; padded = x .padded }
 
 -- what counts of a row, by what was found of it: uint32 takes the low 32 bits; a bool is true unless 0; bytes by their place in the value
 unfoldable pub numberOf : ℕ → ℕ → Number

@@ -1,4 +1,4 @@
-// Reading a message by its table, in one walk: whether it can be read and, for each row of the table, what counts.
+// Reading a message by its table, in one walk: whether it can be read, whether it is padded and, for each row of the table, what counts.
 //
 // A table is a list of numbers. A row is the number of a field, its kind, and how many numbers the table of the message that it holds takes;
 // that table stands behind it. What is found of a row stands at the same place of a list as long: how many fields there were; of the last
@@ -11,8 +11,8 @@ use protobuf::Step;
 ghost use mathlib.Core.Path.{_≡_};
 ghost use Prim.Native.Nat.{_+_, _^_, _≤_, _<_};
 ghost use lib.ListN.{length};
-ghost use mathlib.Core.Bool.{true, _&&_};
-ghost use Rattle.message.specs.Read.{wireOf, rowIn, countMore, firstOf, noted, fieldRead, messageRead, readInto, Scanned, limited, numberOf, flagOf, placeOf};
+ghost use mathlib.Core.Bool.{true, false};
+ghost use Rattle.message.specs.Read.{wireOf, rowIn, countMore, firstOf, noted, unpadded, joined, sealed, fieldRead, messageRead, readInto, Scanned, limited, numberOf, flagOf, placeOf};
 
 // The kinds of fields. Those below 8 are varints, the others bytes; those from 11 on hold messages.
 pub const UINT32: u32 = 0;
@@ -27,9 +27,10 @@ pub const STRINGS: u32 = 10;
 
 pub const PART: u32 = 11;
 
-// What the walk over a message tells of it as a whole.
+// What the walk over a message tells of it as a whole: whether it can be read, and whether a varint that was read in it is padded.
 pub struct Reading {
     pub readable: bool,
+    pub padded: bool,
 }
 
 // What a table says of a field number: the kind of its row, where the row stands, and where what it holds ends.
@@ -100,26 +101,40 @@ fn note(cells: &mut [usize], i: usize, base: usize, f: Field)
     cells[i + 2] = base + f.end;
 }
 
-// What two fields of a message tell together.
-fn join(a: Reading, b: Reading) -> Reading
-    ensures { λ r. ⌜ r .readable ≡ (a .readable && b .readable) ⌝ }
+// What is told of a message with one field more: whether that is padded, and what the message tells that it holds.
+fn join(before: Reading, padded: bool, held: Reading) -> Reading
+    ensures { λ r. ⌜ r ≡ joined before padded held ⌝ }
 {
     Reading {
-        readable: buffer::both(a.readable, b.readable),
+        readable: buffer::both(before.readable, held.readable),
+        padded: buffer::either(before.padded, buffer::either(padded, held.padded)),
     }
 }
 
 fn told(readable: bool) -> Reading
-    ensures { λ r. ⌜ r .readable ≡ readable ⌝ }
+    ensures { λ r. ⌜ r ≡ unpadded readable ⌝ }
 {
-    Reading { readable }
+    Reading {
+        readable,
+        padded: false,
+    }
 }
 
-// What a message without fields tells.
+// What a message without fields tells, or a value that is not read.
 pub fn empty() -> Reading
-    ensures { λ r. ⌜ r ≡ record { readable = true } ⌝ }
+    ensures { λ r. ⌜ r ≡ unpadded true ⌝ }
 {
-    Reading { readable: true }
+    told(true)
+}
+
+// The walk's end at a field that can't be read.
+fn cut(reading: Reading) -> Reading
+    ensures { λ r. ⌜ r ≡ sealed false reading ⌝ }
+{
+    Reading {
+        readable: false,
+        padded: reading.padded,
+    }
 }
 
 // Reads a value by a table; what is found is added to what `cells` has. They must be as long as the table. Messages nest at most four deep.
@@ -144,9 +159,10 @@ fn read_message(v: &[u8], base: usize, table: &[u32], cells: &mut [usize], depth
     let mut at = 0;
     while at < v.len() {
         let Step::Field(f) = protobuf::field_at(v, at) else {
-            return told(false);
+            return cut(reading);
         };
-        reading = join(reading, read_field(v, base, f, table, cells, depth - 1));
+        let held = read_field(v, base, f, table, cells, depth - 1);
+        reading = join(reading, f.padded, held);
         at = f.end;
     }
     reading
@@ -192,6 +208,7 @@ pub fn limit(reading: Reading, within: bool) -> Reading
 {
     Reading {
         readable: buffer::both(reading.readable, within),
+        padded: reading.padded,
     }
 }
 

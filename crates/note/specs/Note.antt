@@ -1,4 +1,4 @@
--- What one record of an acknowledgement says, document 01, "Registration and reports", as document 02, Q-3, amends it.
+-- What one record of an acknowledgement says, document 01, "Registration and reports", as document 02, Q-3, amends it; padding, Q-8.
 use Prim.Native.Nat.{ℕ, _+_}
 use mathlib.Core.List.{List}
 use mathlib.Core.Bool.{Bool, true, false, _&&_, _||_}
@@ -7,6 +7,8 @@ use Rattle.buffer.specs.Pick.{pick}
 use Rattle.decode.specs.Read.{redirectOf, sessionOf, groupOf, validityOf, signatureOf}
 use Rattle.decode_report.specs.Report.{reportOf}
 use Rattle.decode.specs.declared.Group.{Group}
+use Rattle.message.specs.Read.{unpadded}
+use Rattle.message.specs.declared.Reading.{Reading}
 use Rattle.post.specs.Value.{isExpired}
 use Rattle.protobuf.specs.declared.Number.{Number}
 use Rattle.protobuf.specs.declared.Number.the-variants.{Given, Absent}
@@ -18,6 +20,20 @@ use Rattle.state.specs.declared.Registration.{Registration}
 use Rattle.assign.specs.Assign.{withSession, withReport, regrouped, holding}
 use Rattle.assign.specs.declared.Regrouped.{Regrouped}
 use Rattle.note.specs.declared.Learnt.{Learnt}
+
+-- what is read of a value of 6, 7, 13, 55, 76, 77; others are skipped unread
+unfoldable pub readingAt : ℕ → List ℕ → Reading
+readingAt k v =
+    pick (eqb k 6) (redirectOf v .reading)
+    (pick (eqb k 7) (sessionOf v .reading)
+    (pick (eqb k 13) (reportOf v .reading)
+    (pick (eqb k 55) (groupOf v .reading)
+    (pick (eqb k 76) (validityOf v .reading)
+    (pick (eqb k 77) (signatureOf v) (unpadded true))))))
+
+-- document 02, Q-8
+abbrev pub isPadded : ℕ → List ℕ → Bool
+isPadded k v = readingAt k v .padded
 
 -- before the first record
 abbrev pub nothingLearnt : Registration → Assigned → Learnt

@@ -16,14 +16,14 @@ use Rattle.protobuf.specs.declared.Number.the-variants.{Given, Absent}
 use Rattle.schedule.specs.declared.Point.{Point}
 use Rattle.state.specs.Groups.{noPair, heldPairs}
 use Rattle.state.specs.declared.Groups.{Groups}
-use Rattle.tlv.specs.Record.{valued, records, readable, recordAt, recordsFrom}
+use Rattle.tlv.specs.Record.{valued, records, readable, recordAt, recordsFrom, paddedAmong}
 use Rattle.tlv.specs.declared.Record.{Record}
 use Rattle.tlv.specs.declared.Taken.the-variants.{Record as Whole, Unreadable}
 use Rattle.tlv.proofs.Laws.{records-end, records-more, records-unreadable}
 use Rattle.buffer.specs.Listed.{listed}
 use Rattle.buffer.proofs.Tests.{head}
-use Rattle.post.specs.Value.{isReadable, isExpired, isForbidden, anyPair, hasPair, matchOf, isMatch}
-use Rattle.post.specs.Judge.{noted, seenOf, nothingSeen, sealed, lookedAt, LookedBy}
+use Rattle.post.specs.Value.{readingAt, isPadded, isExpired, isForbidden, anyPair, hasPair, matchOf, isMatch}
+use Rattle.post.specs.Judge.{noted, seenOf, nothingSeen, sealed, lookedAt, paddedIn, LookedBy}
 use Rattle.post.specs.declared.Looked.{Looked}
 use Rattle.post.specs.declared.Seen.{Seen}
 
@@ -143,9 +143,22 @@ module _ (g : Groups) (t : Point) where
       looked-block r n e k h = looked-next r n e (rw k h)
 
     -- what the walk leaves
-    pub looked-by : {seen : Seen} {from to : ℕ} {block : Block} {r : Looked} → r ≡ record { seen = seen; start = from; «end» = to; block = block }
-        → seen ≡ lookedAt g t p → block ≡ blockOf (take (to - from) (drop from p)) → LookedBy g t p r
-    looked-by e a b = rw e (record { seen = a; block = b })
+    pub looked-by : {seen : Seen} {padded : Bool} {from to : ℕ} {block : Block} {r : Looked}
+        → r ≡ record { seen = seen; padded = padded; start = from; «end» = to; block = block } → seen ≡ lookedAt g t p → padded ≡ paddedIn p → block ≡ blockOf (take (to - from) (drop from p)) → LookedBy g t p r
+    looked-by e a c b = rw e (record { seen = a; padded = c; block = b })
+
+-- a payload that is not longer
+pub padded-small : (p : List ℕ) {b : Bool} → length p ≤ 1280 → b ≡ paddedAmong isPadded (records p) → b ≡ paddedIn p
+unfolding paddedIn
+padded-small p h e = rw (le-leb (length p) 1280 h) e
+
+pub padded-large : (p : List ℕ) → 1280 < length p → false ≡ paddedIn p
+unfolding paddedIn
+padded-large p h = rw (lt-leb (length p) 1280 h)
+
+pub padded-block : (k : ℕ) (v : List ℕ) {b : Block} → k ≡ 67 → b ≡ blockOf v → b .reading .padded ≡ isPadded k v
+unfolding readingAt
+padded-block k v h e = rw (h, e)
 
 pub none-seen : {seen : Seen} → seen ≡ nothingSeen → seen .records ≤ 0
 none-seen e = rw e (omega arith)
@@ -169,5 +182,5 @@ pub noted-block : (g : Groups) (t : Point) (s : Seen) (v : List ℕ) (b : Block)
       matched = s .matched;
       forbidden = s .forbidden;
     } ≡ noted g t s 67 v
-unfolding noted isReadable isExpired isMatch isForbidden listed
+unfolding noted readingAt isExpired isMatch isForbidden listed
 noted-block g t s v b e = rw (e, or-false (s .signed), or-false (s .expired), or-false (s .grouped), or-false (s .matched), or-false (s .forbidden))

@@ -1,4 +1,4 @@
--- Steps e to i, document 01, "Requests, in this order".
+-- Steps e to i, document 01, "Requests, in this order"; padding, document 02, Q-8.
 use Prim.Native.Nat.{ℕ, _+_, _-_}
 use mathlib.Core.Path.{_≡_}
 use mathlib.Core.List.{List, [], _∷_}
@@ -9,8 +9,8 @@ use Rattle.buffer.specs.Pick.{pick}
 use Rattle.decode_image.specs.Read.{blockOf}
 use Rattle.schedule.specs.declared.Point.{Point}
 use Rattle.state.specs.declared.Groups.{Groups}
-use Rattle.tlv.specs.Record.{Tlv, records, readable}
-use Rattle.post.specs.Value.{isReadable, isExpired, isMatch, isForbidden}
+use Rattle.tlv.specs.Record.{Tlv, records, readable, paddedAmong}
+use Rattle.post.specs.Value.{isReadable, isPadded, isExpired, isMatch, isForbidden}
 use Rattle.post.specs.declared.Looked.{Looked}
 use Rattle.post.specs.declared.Seen.{Seen}
 use Rattle.post.specs.declared.Judgement.{Judgement}
@@ -54,9 +54,14 @@ sealed whole s =
 unfoldable pub lookedAt : Groups → Point → List ℕ → Seen
 lookedAt g time p = pick (leb (length p) 1280) (sealed (readable p) (seenOf g time nothingSeen (records p))) (sealed false nothingSeen)
 
--- what the walk leaves: what it saw, and what the ImageBlock says that it read last, by where its value stands
+-- document 02, Q-8: a varint that is read in the payload is not the shortest
+unfoldable pub paddedIn : List ℕ → Bool
+paddedIn p = leb (length p) 1280 && paddedAmong isPadded (records p)
+
+-- what the walk leaves: what it saw, whether a varint is padded, and what the ImageBlock says that it read last, by where its value stands
 pub record LookedBy (g : Groups) (time : Point) (p : List ℕ) (r : Looked) : Type 0 where
   pub seen : r .seen ≡ lookedAt g time p
+  pub padded : r .padded ≡ paddedIn p
   pub block : r .block ≡ blockOf (take (r .end - r .start) (drop (r .start) p))
 
 -- f. Verdict bad, or signatures required and not good; without record 77 the verdict counts as none
@@ -72,3 +77,7 @@ judged s verdict required =
     (pick (s .grouped && not (s .matched)) (Error 131)
     (pick (s .forbidden) (Error 131) Run))))
     (Error 128)
+
+-- document 02, Q-8: where padding is refused, 4.00 at step e
+unfoldable pub judgedAs : Bool → Bool → Seen → ℕ → Bool → Judgement
+judgedAs refuse padded s verdict required = pick (refuse && padded) (Error 128) (judged s verdict required)

@@ -1,4 +1,4 @@
--- What one record of a posted payload says to steps e to i, document 01, "Requests, in this order".
+-- What one record of a posted payload says to steps e to i, document 01, "Requests, in this order"; padding, document 02, Q-8.
 use Prim.Native.Nat.{ℕ}
 use mathlib.Core.List.{List, [], _∷_}
 use mathlib.Core.Bool.{Bool, true, false, _&&_, _||_}
@@ -7,6 +7,8 @@ use Rattle.buffer.specs.Listed.{listed}
 use Rattle.buffer.specs.Pick.{pick}
 use Rattle.decode.specs.Read.{redirectOf, groupOf, validityOf, signatureOf}
 use Rattle.decode_image.specs.Read.{transferOf, blockOf, loadOf, hashOf}
+use Rattle.message.specs.Read.{unpadded}
+use Rattle.message.specs.declared.Reading.{Reading}
 use Rattle.protobuf.specs.declared.Number.{Number}
 use Rattle.protobuf.specs.declared.Number.the-variants.{Given, Absent}
 use Rattle.schedule.specs.declared.Point.{Point}
@@ -16,18 +18,25 @@ use Rattle.state.specs.Groups.{heldPairs}
 use Rattle.state.specs.declared.Groups.{Groups}
 use Rattle.state.specs.declared.Pair.{Pair}
 
--- e. a value of 6, 57, 65, 67 to 70, 76, 77 that can be read; a URL over its size can't
-unfoldable pub isReadable : ℕ → List ℕ → Bool
-isReadable k v =
-    pick (eqb k 6) (redirectOf v .reading .readable)
-    (pick (eqb k 57) (groupOf v .reading .readable)
-    (pick (eqb k 65) (transferOf v .reading .readable)
-    (pick (eqb k 67) (blockOf v .reading .readable)
-    (pick (eqb k 68) (loadOf v .reading .readable)
-    (pick (eqb k 69) (hashOf v .reading .readable)
-    (pick (eqb k 70) (hashOf v .reading .readable)
-    (pick (eqb k 76) (validityOf v .reading .readable)
-    (pick (eqb k 77) (signatureOf v .readable) true))))))))
+-- e. what is read of a value of 6, 57, 65, 67 to 70, 76, 77; others are not read. A URL over its size can't be read
+unfoldable pub readingAt : ℕ → List ℕ → Reading
+readingAt k v =
+    pick (eqb k 6) (redirectOf v .reading)
+    (pick (eqb k 57) (groupOf v .reading)
+    (pick (eqb k 65) (transferOf v .reading)
+    (pick (eqb k 67) (blockOf v .reading)
+    (pick (eqb k 68) (loadOf v .reading)
+    (pick (eqb k 69) (hashOf v .reading)
+    (pick (eqb k 70) (hashOf v .reading)
+    (pick (eqb k 76) (validityOf v .reading)
+    (pick (eqb k 77) (signatureOf v) (unpadded true)))))))))
+
+abbrev pub isReadable : ℕ → List ℕ → Bool
+isReadable k v = readingAt k v .readable
+
+-- document 02, Q-8
+abbrev pub isPadded : ℕ → List ℕ → Bool
+isPadded k v = readingAt k v .padded
 
 -- g. now outside the bounds of a record 76; an absent bound is open
 unfoldable pub isEarly : Moment → Point → Bool

@@ -10,7 +10,8 @@ ghost use mathlib.Core.Path.{_≡_};
 ghost use Prim.Native.Nat.{ℕ, _≤_};
 ghost use mathlib.Core.List.{List};
 ghost use Rattle.decode_image.specs.Read.{blockOf};
-ghost use Rattle.post.specs.Judge.{nothingSeen, noted, sealed, LookedBy, badlySigned, judged};
+ghost use Rattle.post.specs.Judge.{nothingSeen, noted, sealed, LookedBy, badlySigned, judged, judgedAs};
+ghost use Rattle.post.specs.Value.{isReadable};
 
 // What a walk over a payload has seen: how many records, whether their values can be read, whether one is a
 // Signature, whether one's validity does not hold now, whether there are GroupMatches and one names a held group,
@@ -31,10 +32,11 @@ pub enum Judgement {
     Run,
 }
 
-// What a walk leaves: what it saw, and of the ImageBlock that it read last where its value stands and what it says, so that it need not be
-// read again where it is taken.
+// What a walk leaves: what it saw, whether a varint that it read is padded, and of the ImageBlock that it read last where its value stands and what
+// it says, so that it need not be read again where it is taken.
 pub struct Looked {
     pub seen: Seen,
+    pub padded: bool,
     pub start: usize,
     pub end: usize,
     pub block: Block,
@@ -65,12 +67,12 @@ fn note_block(seen: Seen, block: Block) -> Seen
     next
 }
 
-// One record more.
-fn note(seen: Seen, kind: u64, v: &[u8], groups: Groups, time: Point) -> Seen
-    requires { ⌜ seen .records ≤ 1280 ⌝ }
+// One record more, whose value can be read or not.
+fn note(seen: Seen, kind: u64, v: &[u8], readable: bool, groups: Groups, time: Point) -> Seen
+    requires { ⌜ (seen .records ≤ 1280) × (readable ≡ isReadable kind (now v)) ⌝ }
     ensures { λ r. ⌜ r ≡ noted groups time seen kind (now (v .entry)) ⌝ }
 {
-    let readable = buffer::both(seen.readable, value::is_readable(kind, v));
+    let readable = buffer::both(seen.readable, readable);
     let signed = buffer::either(seen.signed, kind == 77);
     let expired = buffer::either(seen.expired, value::is_expired(kind, v, time));
     let grouped = buffer::either(seen.grouped, kind == 57);
@@ -97,12 +99,13 @@ fn seal(seen: Seen, whole: bool) -> Seen
 }
 
 // The walk's end, with the ImageBlock that it read last.
-fn finish(seen: Seen, whole: bool, start: usize, end: usize, block: Block) -> Looked
-    ensures { λ r. ⌜ r ≡ record { seen = sealed whole seen; start = start; «end» = «end»; block = block } ⌝ }
+fn finish(seen: Seen, padded: bool, whole: bool, start: usize, end: usize, block: Block) -> Looked
+    ensures { λ r. ⌜ r ≡ record { seen = sealed whole seen; padded = padded; start = start; «end» = «end»; block = block } ⌝ }
 {
     let seen = seal(seen, whole);
     Looked {
         seen,
+        padded,
         start,
         end,
         block,
@@ -114,30 +117,35 @@ pub fn look(payload: &[u8], groups: Groups, time: Point) -> Looked
     ensures { λ r. ⌜ LookedBy groups time (now (payload .entry)) r ⌝ }
 {
     let mut seen = nothing();
+    let mut padded = false;
     let mut block = decode_image::no_block();
     let mut from = 0;
     let mut to = 0;
     if 1280 < payload.len() {
-        return finish(seen, false, from, to, block);
+        return finish(seen, padded, false, from, to, block);
     }
     let mut at = 0;
     while at < payload.len() {
         let Taken::Record(r) = tlv::take_record(payload, at) else {
-            return finish(seen, false, from, to, block);
+            return finish(seen, padded, false, from, to, block);
         };
         let start = r.start;
         let end = r.end;
         if r.kind == 67 {
             block = decode_image::read_block(&payload[start..end]);
+            padded = buffer::either(padded, buffer::either(r.padded, block.reading.padded));
             seen = note_block(seen, block);
             from = start;
             to = end;
         } else {
-            seen = note(seen, r.kind, &payload[start..end], groups, time);
+            let v = &payload[start..end];
+            let reading = value::read(r.kind, v);
+            padded = buffer::either(padded, buffer::either(r.padded, reading.padded));
+            seen = note(seen, r.kind, v, reading.readable, groups, time);
         }
         at = end;
     }
-    finish(seen, true, from, to, block)
+    finish(seen, padded, true, from, to, block)
 }
 
 // Step f: a bad verdict, or none good where signatures are required. Without a Signature the verdict counts as none.
@@ -157,7 +165,7 @@ pub fn badly_signed(signed: bool, verdict: u8, required: bool) -> bool
 }
 
 // Steps e to i, in this order.
-pub fn judge(seen: Seen, verdict: u8, required: bool) -> Judgement
+fn judge_seen(seen: Seen, verdict: u8, required: bool) -> Judgement
     ensures { λ r. ⌜ r ≡ judged seen verdict required ⌝ }
 {
     if !seen.readable {
@@ -182,4 +190,20 @@ pub fn judge(seen: Seen, verdict: u8, required: bool) -> Judgement
         return Judgement::Error(coap::FORBIDDEN);
     }
     Judgement::Run
+}
+
+// The same; where padding is refused, step e refuses it.
+pub fn judge(
+    seen: Seen,
+    padded: bool,
+    verdict: u8,
+    required: bool,
+    refuse_padding: bool,
+) -> Judgement
+    ensures { λ r. ⌜ r ≡ judgedAs «refuse_padding» padded seen verdict required ⌝ }
+{
+    if buffer::both(refuse_padding, padded) {
+        return Judgement::Error(coap::BAD_REQUEST);
+    }
+    judge_seen(seen, verdict, required)
 }

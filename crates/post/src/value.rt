@@ -1,11 +1,12 @@
 // What one record of a payload says to steps e to i.
+use message::Reading;
 use protobuf::Number;
 use schedule::Moment;
 use schedule::Point;
 use state::Groups;
 ghost use mathlib.Core.Path.{_≡_};
 ghost use mathlib.Core.Bool.{_&&_, not};
-ghost use Rattle.post.specs.Value.{isReadable, isEarly, isLate, isExpired, hasPair, isMatch, isForbidden};
+ghost use Rattle.post.specs.Value.{readingAt, isEarly, isLate, isExpired, hasPair, isMatch, isForbidden};
 
 // There are GroupMatches, and none names a held group.
 pub fn unmatched(grouped: bool, matched: bool) -> bool
@@ -14,21 +15,21 @@ pub fn unmatched(grouped: bool, matched: bool) -> bool
     if grouped { !matched } else { false }
 }
 
-// Whether the value of a record that acts can be read; others are not read.
-pub fn is_readable(kind: u64, v: &[u8]) -> bool
-    ensures { λ r. ⌜ r ≡ isReadable kind (now (v .entry)) ⌝ }
+// What is read of the value of a record that acts; others are not read.
+pub fn read(kind: u64, v: &[u8]) -> Reading
+    ensures { λ r. ⌜ r ≡ readingAt kind (now (v .entry)) ⌝ }
 {
     match kind {
-        6 => decode::read_redirect(v).reading.readable,
-        57 => decode::read_group(v).reading.readable,
-        65 => decode_image::read_transfer(v).reading.readable,
-        67 => decode_image::read_block(v).reading.readable,
-        68 => decode_image::read_load(v).reading.readable,
-        69 => decode_image::read_hash(v).reading.readable,
-        70 => decode_image::read_hash(v).reading.readable,
-        76 => decode::read_validity(v).reading.readable,
-        77 => decode::read_signature(v).readable,
-        _ => true,
+        6 => decode::read_redirect(v).reading,
+        57 => decode::read_group(v).reading,
+        65 => decode_image::read_transfer(v).reading,
+        67 => decode_image::read_block(v).reading,
+        68 => decode_image::read_load(v).reading,
+        69 => decode_image::read_hash(v).reading,
+        70 => decode_image::read_hash(v).reading,
+        76 => decode::read_validity(v).reading,
+        77 => decode::read_signature(v),
+        _ => message::empty(),
     }
 }
 

@@ -2,7 +2,7 @@
 use Prim.Native.Nat.{ℕ, _/_, _%_, _^_, _≤_, _<_}
 use mathlib.Core.Path.{_≡_, refl, ap, subst}
 use mathlib.Core.List.{List}
-use mathlib.Core.Bool.{true, false}
+use mathlib.Core.Bool.{Bool, true, false}
 use native.Mathlib.Omega.{arith}
 use borrow.Author.Tests.{eq-eqb, ne-eqb, lt-ltb, le-ltb, le-leb, lt-leb}
 use lib.Dec.{eqb, ltb, leb}
@@ -28,24 +28,24 @@ use Rattle.protobuf.specs.declared.Step.the-variants.{Field as Whole, Un
 use Rattle.protobuf.proofs.EachLaws.{either, each-walked}
 
 -- what a field holds, by its wire type
-module _ (s : List ℕ) (n w at : ℕ) {r : Step} where
-  pub content-number : w ≡ 0 → r ≡ numbered n (varintAt s at) → r ≡ contentAt s n w at
+module _ (s : List ℕ) (n w : ℕ) (p : Bool) (at : ℕ) {r : Step} where
+  pub content-number : w ≡ 0 → r ≡ numbered n p (varintAt s at) → r ≡ contentAt s n w p at
   unfolding contentAt
   content-number h e = rw (eq-eqb w 0 h) e
 
-  pub content-eight : (w ≡ 0 → ⊥) → w ≡ 1 → r ≡ spanned n w at (stretch (length s) at 8) → r ≡ contentAt s n w at
+  pub content-eight : (w ≡ 0 → ⊥) → w ≡ 1 → r ≡ spanned n w p at (stretch (length s) at 8) → r ≡ contentAt s n w p at
   unfolding contentAt
   content-eight a h e = rw (ne-eqb w 0 a, eq-eqb w 1 h) e
 
-  pub content-bytes : (w ≡ 0 → ⊥) → (w ≡ 1 → ⊥) → w ≡ 2 → r ≡ held n (delimitedAt s at) → r ≡ contentAt s n w at
+  pub content-bytes : (w ≡ 0 → ⊥) → (w ≡ 1 → ⊥) → w ≡ 2 → r ≡ held n p (delimitedAt s at) → r ≡ contentAt s n w p at
   unfolding contentAt
   content-bytes a b h e = rw (ne-eqb w 0 a, ne-eqb w 1 b, eq-eqb w 2 h) e
 
-  pub content-four : (w ≡ 0 → ⊥) → (w ≡ 1 → ⊥) → (w ≡ 2 → ⊥) → w ≡ 5 → r ≡ spanned n w at (stretch (length s) at 4) → r ≡ contentAt s n w at
+  pub content-four : (w ≡ 0 → ⊥) → (w ≡ 1 → ⊥) → (w ≡ 2 → ⊥) → w ≡ 5 → r ≡ spanned n w p at (stretch (length s) at 4) → r ≡ contentAt s n w p at
   unfolding contentAt
   content-four a b d h e = rw (ne-eqb w 0 a, ne-eqb w 1 b, ne-eqb w 2 d, eq-eqb w 5 h) e
 
-  pub content-none : (w ≡ 0 → ⊥) → (w ≡ 1 → ⊥) → (w ≡ 2 → ⊥) → (w ≡ 5 → ⊥) → r ≡ Unreadable → r ≡ contentAt s n w at
+  pub content-none : (w ≡ 0 → ⊥) → (w ≡ 1 → ⊥) → (w ≡ 2 → ⊥) → (w ≡ 5 → ⊥) → r ≡ Unreadable → r ≡ contentAt s n w p at
   unfolding contentAt
   content-none a b d h e = rw (ne-eqb w 0 a, ne-eqb w 1 b, ne-eqb w 2 d, ne-eqb w 5 h) e
 
@@ -55,7 +55,7 @@ module _ (s : List ℕ) (at : ℕ) where
   unfolding fieldAt ofTag
   field-untagged e = rw e
 
-  module _ (tag mid : ℕ) (e : varintAt s at ≡ Number tag mid) where
+  module _ (tag mid : ℕ) (p : Bool) (e : varintAt s at ≡ Number tag mid p) where
     pub field-large : 2 ^ 32 ≤ tag → fieldAt s at ≡ Unreadable
     unfolding fieldAt ofTag
     field-large h = rw (e, le-leb (2 ^ 32) tag h)
@@ -64,7 +64,7 @@ module _ (s : List ℕ) (at : ℕ) where
     unfolding fieldAt ofTag
     field-zero h k = rw (e, lt-leb (2 ^ 32) tag h, lt-ltb tag 8 k)
 
-    pub field-tagged : tag < 2 ^ 32 → 8 ≤ tag → fieldAt s at ≡ contentAt s (tag / 8) (tag % 8) mid
+    pub field-tagged : tag < 2 ^ 32 → 8 ≤ tag → fieldAt s at ≡ contentAt s (tag / 8) (tag % 8) p mid
     unfolding fieldAt ofTag
     field-tagged h k = rw (e, lt-leb (2 ^ 32) tag h, le-ltb tag 8 k)
 
@@ -78,23 +78,23 @@ module _ (s : List ℕ) (at : ℕ) where
   Within (Whole f) = Follows s at f
   Within Unreadable = Unit {0}
 
-  module _ (mid : ℕ) (h : at < mid) where
-    numbered-within : (n : ℕ) (r : Varint) → varintAt s mid ≡ r → Within (numbered n r)
+  module _ (mid : ℕ) (h : at < mid) (p : Bool) where
+    numbered-within : (n : ℕ) (r : Varint) → varintAt s mid ≡ r → Within (numbered n p r)
     unfolding numbered
-    numbered-within n (Number v next) e = let i = inside s mid v next e in omega arith
+    numbered-within n (Number v next o) e = let i = inside s mid v next o e in omega arith
     numbered-within n Unspelt e = tt
 
-    spanned-within : (n w k : ℕ) (r : Stretch) → stretch (length s) mid k ≡ r → Within (spanned n w mid r)
+    spanned-within : (n w k : ℕ) (r : Stretch) → stretch (length s) mid k ≡ r → Within (spanned n w p mid r)
     unfolding spanned
     spanned-within n w k (To end) e = let b = stretch-inside (length s) mid k end e in omega arith
     spanned-within n w k Outside e = tt
 
-    held-within : (n : ℕ) (r : Delimited) → delimitedAt s mid ≡ r → Within (held n r)
+    held-within : (n : ℕ) (r : Delimited) → delimitedAt s mid ≡ r → Within (held n p r)
     unfolding held
-    held-within n (At start end) e = let b = delimited-inside s mid start end e in omega arith
+    held-within n (At start end o) e = let b = delimited-inside s mid start end o e in omega arith
     held-within n Cut e = tt
 
-    content-within : (n w : ℕ) → Within (contentAt s n w mid)
+    content-within : (n w : ℕ) → Within (contentAt s n w p mid)
     unfolding contentAt
     content-within n w =
         either Within (eqb w 0) _ _ (numbered-within n (varintAt s mid) refl)
@@ -104,9 +104,9 @@ module _ (s : List ℕ) (at : ℕ) where
 
   tagged-within : (r : Varint) → varintAt s at ≡ r → Within (ofTag s r)
   unfolding ofTag
-  tagged-within (Number tag mid) e =
+  tagged-within (Number tag mid p) e =
       either Within (leb (2 ^ 32) tag) _ _ tt
-      (either Within (ltb tag 8) _ _ tt (content-within mid (inside s at tag mid e .starts) (tag / 8) (tag % 8)))
+      (either Within (ltb tag 8) _ _ tt (content-within mid (inside s at tag mid p e .starts) p (tag / 8) (tag % 8)))
   tagged-within Unspelt e = tt
 
   pub field-within : (f : Field) → fieldAt s at ≡ Whole f → Follows s at f

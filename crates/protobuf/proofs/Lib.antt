@@ -1,3 +1,4 @@
 pub mod EachLaws
 pub mod FieldLaws
 pub mod SizeLaws
+pub mod Theorems

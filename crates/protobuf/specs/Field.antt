@@ -1,6 +1,8 @@
--- Fields, document 01, "Records and fields" (Protocol Buffers encoding, "Message Structure").
+-- Fields, document 01, "Records and fields" (Protocol Buffers encoding, "Message Structure"). Document 02, Q-8: padded where its tag, its length or
+-- its number is; its bytes don't count.
 use Prim.Native.Nat.{ℕ, _-_, _/_, _%_, _^_}
 use mathlib.Core.List.{List}
+use mathlib.Core.Bool.{Bool, _||_}
 use lib.ListN.{length, take, drop}
 use lib.Dec.{eqb, ltb, leb}
 use Rattle.buffer.specs.Pick.{pick}
@@ -19,32 +21,35 @@ use Rattle.protobuf.specs.declared.Step.{Step}
 use Rattle.protobuf.specs.declared.Step.the-variants.{Field as Whole, Unreadable}
 
 -- wire type 0: a number; it has no bytes
-unfoldable pub numbered : ℕ → Varint → Step
-numbered n (Number v next) = Whole (record { number = n; wire = 0; value = v; start = next; end = next })
-numbered n Unspelt = Unreadable
+unfoldable pub numbered : ℕ → Bool → Varint → Step
+numbered n padded (Number v next paddedValue) =
+    Whole (record { number = n; wire = 0; value = v; start = next; end = next; padded = padded || paddedValue })
+numbered n padded Unspelt = Unreadable
 
 -- wire type 2: bytes behind their length
-unfoldable pub held : ℕ → Delimited → Step
-held n (At start end) = Whole (record { number = n; wire = 2; value = 0; start = start; end = end })
-held n Cut = Unreadable
+unfoldable pub held : ℕ → Bool → Delimited → Step
+held n padded (At start end paddedLength) =
+    Whole (record { number = n; wire = 2; value = 0; start = start; end = end; padded = padded || paddedLength })
+held n padded Cut = Unreadable
 
 -- wire types 1 and 5: bytes of a fixed length
-unfoldable pub spanned : ℕ → ℕ → ℕ → Stretch → Step
-spanned n w start (To end) = Whole (record { number = n; wire = w; value = 0; start = start; end = end })
-spanned n w start Outside = Unreadable
+unfoldable pub spanned : ℕ → ℕ → Bool → ℕ → Stretch → Step
+spanned n w padded start (To end) = Whole (record { number = n; wire = w; value = 0; start = start; end = end; padded = padded })
+spanned n w padded start Outside = Unreadable
 
--- wire types 0, 1, 2, 5 are read, others refused
-unfoldable pub contentAt : List ℕ → ℕ → ℕ → ℕ → Step
-contentAt s n w at =
-    pick (eqb w 0) (numbered n (varintAt s at))
-    (pick (eqb w 1) (spanned n w at (stretch (length s) at 8))
-    (pick (eqb w 2) (held n (delimitedAt s at))
-    (pick (eqb w 5) (spanned n w at (stretch (length s) at 4))
+-- behind a tag, padded or not: wire types 0, 1, 2, 5 are read, others refused
+unfoldable pub contentAt : List ℕ → ℕ → ℕ → Bool → ℕ → Step
+contentAt s n w padded at =
+    pick (eqb w 0) (numbered n padded (varintAt s at))
+    (pick (eqb w 1) (spanned n w padded at (stretch (length s) at 8))
+    (pick (eqb w 2) (held n padded (delimitedAt s at))
+    (pick (eqb w 5) (spanned n w padded at (stretch (length s) at 4))
     Unreadable)))
 
 -- a tag is number·8 + wire type, below 2^32, number not 0
 unfoldable pub ofTag : List ℕ → Varint → Step
-ofTag s (Number tag mid) = pick (leb (2 ^ 32) tag) Unreadable (pick (ltb tag 8) Unreadable (contentAt s (tag / 8) (tag % 8) mid))
+ofTag s (Number tag mid padded) =
+    pick (leb (2 ^ 32) tag) Unreadable (pick (ltb tag 8) Unreadable (contentAt s (tag / 8) (tag % 8) padded mid))
 ofTag s Unspelt = Unreadable
 
 -- the field at a position of a message

@@ -1,3 +1,4 @@
+pub mod Before
 pub mod Each
 pub mod Field
 pub mod Given

@@ -16,13 +16,14 @@ use varint::Delimited;
 use varint::Varint;
 
 // A field: its number and wire type, its value where it is a varint, and its bytes from `start` up to `end`,
-// where the next field begins. A varint has no bytes.
+// where the next field begins; and whether its tag, its length or its number is padded. A varint has no bytes.
 pub struct Field {
     pub number: u32,
     pub wire: u8,
     pub value: u64,
     pub start: usize,
     pub end: usize,
+    pub padded: bool,
 }
 
 // What stands at a position of a message.
@@ -52,7 +53,7 @@ pub enum Bytes {
 pub fn field_at(s: &[u8], at: usize) -> Step
     ensures { λ r. ⌜ r ≡ fieldAt (now (s .entry)) at ⌝ }
 {
-    let Varint::Number(tag, mid) = varint::read(s, at) else {
+    let Varint::Number(tag, mid, padded) = varint::read(s, at) else {
         return Step::Unreadable;
     };
     if 4294967296 <= tag {
@@ -61,32 +62,32 @@ pub fn field_at(s: &[u8], at: usize) -> Step
     if tag < 8 {
         return Step::Unreadable;
     }
-    content_at(s, (tag / 8) as u32, (tag % 8) as u8, mid)
+    content_at(s, (tag / 8) as u32, (tag % 8) as u8, padded, mid)
 }
 
-// What a field of that number and wire type holds, from `at` on.
-fn content_at(s: &[u8], number: u32, wire: u8, at: usize) -> Step
-    ensures { λ r. ⌜ r ≡ contentAt (now (s .entry)) number wire at ⌝ }
+// What a field of that number and wire type holds, from `at` on, behind a tag that was padded or not.
+fn content_at(s: &[u8], number: u32, wire: u8, padded: bool, at: usize) -> Step
+    ensures { λ r. ⌜ r ≡ contentAt (now (s .entry)) number wire padded at ⌝ }
 {
     if wire == 0 {
-        return varint_at(s, number, at);
+        return varint_at(s, number, padded, at);
     }
     if wire == 1 {
-        return span_at(s, number, wire, at, 8);
+        return span_at(s, number, wire, padded, at, 8);
     }
     if wire == 2 {
-        return bytes_at(s, number, at);
+        return bytes_at(s, number, padded, at);
     }
     if wire == 5 {
-        return span_at(s, number, wire, at, 4);
+        return span_at(s, number, wire, padded, at, 4);
     }
     Step::Unreadable
 }
 
-fn varint_at(s: &[u8], number: u32, at: usize) -> Step
-    ensures { λ r. ⌜ r ≡ numbered number (varintAt (now (s .entry)) at) ⌝ }
+fn varint_at(s: &[u8], number: u32, padded: bool, at: usize) -> Step
+    ensures { λ r. ⌜ r ≡ numbered number padded (varintAt (now (s .entry)) at) ⌝ }
 {
-    let Varint::Number(value, end) = varint::read(s, at) else {
+    let Varint::Number(value, end, padded_value) = varint::read(s, at) else {
         return Step::Unreadable;
     };
     Step::Field(Field {
@@ -95,13 +96,14 @@ fn varint_at(s: &[u8], number: u32, at: usize) -> Step
         value,
         start: end,
         end,
+        padded: buffer::either(padded, padded_value),
     })
 }
 
-fn bytes_at(s: &[u8], number: u32, at: usize) -> Step
-    ensures { λ r. ⌜ r ≡ held number (delimitedAt (now (s .entry)) at) ⌝ }
+fn bytes_at(s: &[u8], number: u32, padded: bool, at: usize) -> Step
+    ensures { λ r. ⌜ r ≡ held number padded (delimitedAt (now (s .entry)) at) ⌝ }
 {
-    let Delimited::At(start, end) = varint::read_delimited(s, at) else {
+    let Delimited::At(start, end, padded_len) = varint::read_delimited(s, at) else {
         return Step::Unreadable;
     };
     Step::Field(Field {
@@ -110,12 +112,13 @@ fn bytes_at(s: &[u8], number: u32, at: usize) -> Step
         value: 0,
         start,
         end,
+        padded: buffer::either(padded, padded_len),
     })
 }
 
 // A field of a fixed length.
-fn span_at(s: &[u8], number: u32, wire: u8, start: usize, len: u64) -> Step
-    ensures { λ r. ⌜ r ≡ spanned number wire start (stretch (length (now (s .entry))) start len) ⌝ }
+fn span_at(s: &[u8], number: u32, wire: u8, padded: bool, start: usize, len: u64) -> Step
+    ensures { λ r. ⌜ r ≡ spanned number wire padded start (stretch (length (now (s .entry))) start len) ⌝ }
 {
     let Stretch::To(end) = buffer::end_of(s, start, len) else {
         return Step::Unreadable;
@@ -126,5 +129,6 @@ fn span_at(s: &[u8], number: u32, wire: u8, start: usize, len: u64) -> Step
         value: 0,
         start,
         end,
+        padded,
     })
 }

@@ -11,6 +11,15 @@ pub struct Answer {
     pub state: State,
 }
 
+// What a datagram call answers: the same, and whether a varint that was read in the payload is padded, where the records ran or the
+// acknowledgement was taken.
+pub struct DatagramAnswer {
+    pub outcome: u32,
+    pub len: usize,
+    pub state: State,
+    pub padded: bool,
+}
+
 // Nothing is written.
 pub fn silent(outcome: u32, state: State) -> Answer
     ensures { λ r. ⌜ r ≡ record { outcome = outcome; len = 0; state = state } ⌝ }

@@ -1,7 +1,7 @@
 -- What `specs/Written.antt` states.
 use Prim.Native.Nat.{ℕ, _^_, _≤_, _<_}
 use mathlib.Core.Path.{_≡_, refl, sym, ap, _∙_}
-use mathlib.Core.Bool.{true}
+use mathlib.Core.Bool.{true, false}
 use mathlib.Core.List.{List, [], _∷_, map, append-nil}
 use mathlib.Core.Option.{none, some}
 use native.Mathlib.Nat.{le-of-eq}
@@ -45,7 +45,7 @@ back : {k : ℕ} {T : Table} {v : Values T} {bytes : List ℕ} → k < 2 ^ 64 �
     → bytes ≡ recordBytes k (writeBy T v) → Back k T v bytes
 unfolding payload
 back {k} {T} {v} h formed small short e =
-    let rs : List Tlv = record { kind = k; value = writeBy T v } ∷ [] in
+    let rs : List Tlv = record { kind = k; value = writeBy T v; padded = false } ∷ [] in
     let f : Fitting rs = a-record h short no-record in
     let p = e ∙ sym (append-nil (recordBytes k (writeBy T v))) in
     record {
@@ -53,6 +53,7 @@ back {k} {T} {v} h formed small short e =
       one = rw p (records-back .back rs f);
       whole = rw p (records-back .whole rs f);
       fields = fields-back T formed .whole v small short;
+      unpadded = fields-back T formed .unpadded v small short;
       values = fields-back T formed .back v small short;
     }
 

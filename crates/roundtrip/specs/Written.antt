@@ -11,7 +11,7 @@ use Rattle.decimal.specs.declared.Ids.{Ids}
 use Rattle.protobuf.specs.Each.{IfAny, Each}
 use Rattle.protobuf.specs.Given.{numberGiven, bytesGiven, ifGiven}
 use Rattle.tables.specs.Statements.{RoundTripped}
-use Rattle.tables.specs.Table.{Table, Values, readable, readBy, writeBy}
+use Rattle.tables.specs.Table.{Table, Values, readable, padded, readBy, writeBy}
 use Rattle.decode.specs.Read.{sessionOf}
 use Rattle.decode_report.specs.Report.{reportOf}
 use Rattle.protobuf.specs.declared.Number.{Number}
@@ -82,12 +82,13 @@ samples =
 abbrev pub Samples : Type 0
 Samples = map (λ (x : Sample). x .written) samples ≡ map (λ (x : Sample). x .bytes) samples
 
--- bytes that are, as a payload, exactly one record of type k, and whose value read by table T gives v
+-- bytes that are, as a payload, exactly one record of type k, and whose value read by table T gives v; no varint of them is padded
 pub record Back (k : ℕ) (T : Table) (v : Values T) (bytes : List ℕ) : Type 0 where
   pub form : bytes ≡ recordBytes k (writeBy T v)
-  pub one : records bytes ≡ record { kind = k; value = writeBy T v } ∷ []
+  pub one : records bytes ≡ record { kind = k; value = writeBy T v; padded = false } ∷ []
   pub whole : wholly bytes ≡ true
   pub fields : readable T (writeBy T v) ≡ true
+  pub unpadded : padded T (writeBy T v) ≡ false
   pub values : readBy T (writeBy T v) ≡ v
 
 -- a number that is given is below 2^32

@@ -1,6 +1,6 @@
 -- Laws of judged payloads: one that runs has few records, whose values can be read; and what a post leaves.
 use Prim.Native.Nat.{ℕ, _+_, _≤_}
-use mathlib.Core.Path.{_≡_, refl, sym, ap, _∙_}
+use mathlib.Core.Path.{_≡_, refl, sym, ap, ap₂, _∙_}
 use mathlib.Core.List.{List, [], _∷_}
 use mathlib.Core.Bool.{Bool, true, false, not, _&&_}
 use native.Mathlib.Omega.{arith}
@@ -9,10 +9,11 @@ use lib.Dec.{eqb, leb}
 use lib.ListN.{length}
 use Rattle.buffer.specs.Pick.{pick}
 use Rattle.buffer.proofs.Tests.{both}
-use Rattle.post.specs.Judge.{noted, seenOf, nothingSeen, sealed, lookedAt, judged}
+use Rattle.post.specs.Judge.{noted, seenOf, nothingSeen, sealed, lookedAt, paddedIn, LookedBy, judged, judgedAs}
 use Rattle.post.specs.Value.{isReadable}
 use Rattle.post.specs.declared.Judgement.{Judgement}
 use Rattle.post.specs.declared.Judgement.the-variants.{Error, Run}
+use Rattle.post.specs.declared.Looked.{Looked}
 use Rattle.post.specs.declared.Seen.{Seen}
 use Rattle.protobuf.specs.Each.{Each}
 use Rattle.schedule.specs.declared.Point.{Point}
@@ -71,45 +72,58 @@ judged-run s verdict required h =
     go true x q = refl
     go false x q = let z : _≡_ {A = ℕ} 0 1 = cc in absurd (omega arith)
 
-module _ (g : Groups) (time : Point) (p : List ℕ) (verdict : ℕ) (required : Bool) (h : judged (lookedAt g time p) verdict required ≡ Run) where
+judged-as-run : (refuse padded : Bool) (s : Seen) (verdict : ℕ) (required : Bool) → judgedAs refuse padded s verdict required ≡ Run → judged s verdict required ≡ Run
+unfolding judgedAs
+judged-as-run refuse padded s verdict required = go (refuse && padded)
+  where
+    go : (t : Bool) → pick t (Error 128) (judged s verdict required) ≡ Run → judged s verdict required ≡ Run
+    go true q = let z : _≡_ {A = ℕ} 0 1 = cc in absurd (omega arith)
+    go false q = q
+
+module _ (g : Groups) (time : Point) (p : List ℕ) (verdict : ℕ) (required refuse : Bool) (h : judgedAs refuse (paddedIn p) (lookedAt g time p) verdict required ≡ Run) where
+  runs : (lookedAt g time p .readable ≡ true) × (lookedAt g time p .records ≤ 24)
+  runs = judged-run (lookedAt g time p) verdict required (judged-as-run refuse (paddedIn p) (lookedAt g time p) verdict required h)
+
   pub run-few : length (records p) ≤ 24
   run-few =
-      let r = judged-run (lookedAt g time p) verdict required h in
+      let r = runs in
       omega (arith, r .1, looked-seen g time p (r .0) .0)
 
   pub run-readable : Each (λ (t : Tlv). isReadable (t .kind) (t .value) ≡ true) (records p)
-  run-readable = looked-seen g time p (judged-run (lookedAt g time p) verdict required h .0) .1
+  run-readable = looked-seen g time p (runs .0) .1
 
 -- the records that are still to run lead to what all of them lead to
-from-run : (d : Device) (w : World) (p : List ℕ) (next : World) (at : ℕ) {code : ℕ} → code ≡ 65 → ran d w (records p) ≡ ran d next (recordsAt p at)
-    → responses d w (records p) ≡ responses d next (recordsAt p at) → postedAs d w p Run ≡ postedFrom d next p at code
+from-run : (d : Device) (w : World) (p : List ℕ) (next : World) (at : ℕ) {code : ℕ} {padded told : Bool} → code ≡ 65 → told ≡ padded → ran d w (records p) ≡ ran d next (recordsAt p at)
+    → responses d w (records p) ≡ responses d next (recordsAt p at) → postedAs d w p padded Run ≡ postedFrom d next p at code told
 unfolding postedAs
-from-run d w p next at e a b = rw (e, a, b)
+from-run d w p next at e f a b = rw (e, f, a, b)
 
 -- what a post begins with, by the judgement
-module _ (i : Images) (g : Groups) (signed : Bool) (flash p : List ℕ) (time : Point) (verdict : ℕ) {seen : Seen} (e : seen ≡ lookedAt g time p) where
-  pub begun-error : {code : ℕ} {j : Judgement} → j ≡ judged seen verdict signed → j ≡ Error code
-      → BegunBy i g signed flash p time verdict (record { code = code; at = length p; images = i }) flash
+module _ (i : Images) (g : Groups) (signed refuse : Bool) (flash p : List ℕ) (time : Point) (verdict : ℕ) {looked : Looked} (l : LookedBy g time p looked) where
+  pub begun-error : {code : ℕ} {j : Judgement} → j ≡ judgedAs refuse (looked .padded) (looked .seen) verdict signed → j ≡ Error code
+      → BegunBy i g signed refuse flash p time verdict (record { code = code; at = length p; images = i; padded = false }) flash
   unfolding posted postedAs judgedAt ran responses
   begun-error h k =
-      let f : judged (lookedAt g time p) verdict signed ≡ Error _ = ap (λ (s : Seen). judged s verdict signed) (sym e) ∙ sym h ∙ k in
+      let f : judgedAs refuse (paddedIn p) (lookedAt g time p) verdict signed ≡ Error _ =
+      ap₂ (λ (b : Bool) (s : Seen). judgedAs refuse b s verdict signed) (sym (l .padded)) (sym (l .seen)) ∙ sym h ∙ k in
       let z : length p ≤ length p = omega arith in
       let a = at-end p (length p) z in
-      record { post = λ d reg q. rw (q, f, a); few = rw a (omega arith); created = λ l. absurd (omega arith) }
+      record { post = λ d reg q o. rw (q, o, f, a); few = rw a (omega arith); created = λ m. absurd (omega arith) }
 
-  pub begun-run : {j : Judgement} {r : Begun} {left : List ℕ} → j ≡ judged seen verdict signed → j ≡ Run
-      → (r .code ≡ 65) × FrontBy i flash p (r .images) (r .at) left → BegunBy i g signed flash p time verdict r left
+  pub begun-run : {j : Judgement} {r : Begun} {left : List ℕ} → j ≡ judgedAs refuse (looked .padded) (looked .seen) verdict signed → j ≡ Run
+      → (r .code ≡ 65) × (r .padded ≡ looked .padded) × FrontBy i flash p (r .images) (r .at) left → BegunBy i g signed refuse flash p time verdict r left
   unfolding posted postedAs judgedAt
   begun-run {r = r} {left = left} h k b =
-      let f : judged (lookedAt g time p) verdict signed ≡ Run = ap (λ (s : Seen). judged s verdict signed) (sym e) ∙ sym h ∙ k in
-      let n = run-few g time p verdict signed f in
-      let m = b .1 .fewer in
+      let f : judgedAs refuse (paddedIn p) (lookedAt g time p) verdict signed ≡ Run =
+      ap₂ (λ (b : Bool) (s : Seen). judgedAs refuse b s verdict signed) (sym (l .padded)) (sym (l .seen)) ∙ sym h ∙ k in
+      let n = run-few g time p verdict signed refuse f in
+      let m = b .2 .fewer in
       record {
         post =
-            λ d reg q.
-            ap (λ (s : Bool). postedAs d (worldWith i reg flash) p (judged (lookedAt g time p) verdict s)) q
-            ∙ ap (postedAs d (worldWith i reg flash) p) f
-            ∙ from-run d (worldWith i reg flash) p (worldWith (r .images) reg left) (r .at) (b .0) (b .1 .world d reg) (b .1 .body d reg);
+            λ d reg q o.
+            ap₂ (λ (s t : Bool). postedAs d (worldWith i reg flash) p (paddedIn p) (judgedAs t (paddedIn p) (lookedAt g time p) verdict s)) q o
+            ∙ ap (postedAs d (worldWith i reg flash) p (paddedIn p)) f
+            ∙ from-run d (worldWith i reg flash) p (worldWith (r .images) reg left) (r .at) (b .0) (b .1 ∙ l .padded) (b .2 .world d reg) (b .2 .body d reg);
         few = omega arith;
-        created = λ l. b .0;
+        created = λ m. b .0;
       }

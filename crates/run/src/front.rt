@@ -11,11 +11,13 @@ ghost use Rattle.state.specs.declared.Images.{Images};
 ghost use Rattle.transfer.specs.Block.{Parts};
 ghost use Rattle.run.specs.Front.{FrontBy, withBlocks};
 
-// What a post began with: the code of its reply, where the records stand that are still to run, and the images.
+// What a post began with: the code of its reply, where the records stand that are still to run, the images, and whether the records may run
+// and a varint that was read is padded.
 pub struct Begun {
     pub code: u8,
     pub at: usize,
     pub images: Images,
+    pub padded: bool,
 }
 
 // The number of blocks held, and where the first record stands that is still to run.
@@ -79,7 +81,7 @@ fn take_blocks(
 // The blocks at the front of a payload that was judged and may run.
 pub fn take_front(images: Images, flash: &mut [u8], payload: &[u8], looked: Looked) -> Begun
     requires { ⌜ looked .block ≡ blockOf (take (looked .end - looked .start) (drop (looked .start) (now payload))) ⌝ }
-    ensures { λ r. ⌜ (r .code ≡ 65) × FrontBy images (now (flash .entry)) (now (payload .entry)) (r .images) (r .at) (now (flash .exit)) ⌝ }
+    ensures { λ r. ⌜ (r .code ≡ 65) × (r .padded ≡ looked .padded) × FrontBy images (now (flash .entry)) (now (payload .entry)) (r .images) (r .at) (now (flash .exit)) ⌝ }
 {
     let mut image = images.image;
     let hash = image.hash;
@@ -103,5 +105,6 @@ pub fn take_front(images: Images, flash: &mut [u8], payload: &[u8], looked: Look
         code: coap::CREATED,
         at: reached.at,
         images: next,
+        padded: looked.padded,
     }
 }

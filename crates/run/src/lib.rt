@@ -17,26 +17,28 @@ ghost use Rattle.step.specs.Step.{worldOf};
 ghost use Rattle.run.specs.Run.{recordsAt, worldWith, RanBy};
 ghost use Rattle.run.specs.Post.{BegunBy};
 
-// Steps e to i, and of step j the blocks at the payload's front: the code of the reply, where the records stand that are still to run, and the
-// images. On an error nothing changes.
+// Steps e to i, and of step j the blocks at the payload's front: the code of the reply, where the records stand that are still to run, the
+// images, and whether a varint is padded. On an error nothing changes.
 pub fn begin(
     images: Images,
     groups: Groups,
     signed_posts: bool,
+    refuse_padding: bool,
     flash: &mut [u8],
     payload: &[u8],
     time: Point,
     verdict: u8,
 ) -> Begun
-    ensures { λ r. ⌜ BegunBy images groups «signed_posts» (now (flash .entry)) (now (payload .entry)) time verdict r (now (flash .exit)) ⌝ }
+    ensures { λ r. ⌜ BegunBy images groups «signed_posts» «refuse_padding» (now (flash .entry)) (now (payload .entry)) time verdict r (now (flash .exit)) ⌝ }
 {
     let looked = post::look(payload, groups, time);
     let seen = looked.seen;
-    match post::judge(seen, verdict, signed_posts) {
+    match post::judge(seen, looked.padded, verdict, signed_posts, refuse_padding) {
         Judgement::Error(code) => Begun {
             code,
             at: payload.len(),
             images,
+            padded: false,
         },
         Judgement::Run => front::take_front(images, flash, payload, looked),
     }

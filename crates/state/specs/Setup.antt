@@ -91,7 +91,7 @@ validSettings s =
     within 1 (s .«image_len») 1048576
     && (leb 1 (s .«interval_min» .0) && (leb (s .«interval_min» .0) (s .«interval_max» .0) && leb (s .«interval_max» .0) 86400))
 
--- nothing else is held at first
+-- nothing else is held at first; document 02, Q-8: padding is not refused
 unfoldable pub firstState : List ℕ → List ℕ → List ℕ → List ℕ → Settings → State
 firstState hw vendor running url s =
     record {
@@ -105,6 +105,7 @@ firstState hw vendor running url s =
             «interval_max» = s .«interval_max»;
             «signed_posts» = s .«signed_posts»;
             «signed_responses» = s .«signed_responses»;
+            «refuse_padding» = false;
           };
       images = onlyRunning (hashOf running);
       assigned = noneAssigned;

@@ -26,7 +26,7 @@ pub struct Url {
     pub len: usize,
 }
 
-// What setup fixes for good. `home` is the URL that a boot restores.
+// What setup gives; `home` is the URL that a boot restores. Whether padding is refused may change later, nothing else.
 pub struct Device {
     pub hw_id: HwId,
     pub vendor_hw_id: HwId,
@@ -36,6 +36,7 @@ pub struct Device {
     pub interval_max: Length,
     pub signed_posts: bool,
     pub signed_responses: bool,
+    pub refuse_padding: bool,
 }
 
 // A load that was accepted: the hash that will run, and when.

@@ -216,6 +216,7 @@ fn first_state(hw_id: &[u8], vendor_hw_id: &[u8], running: &[u8], url: &[u8], s:
         interval_max: high,
         signed_posts: s.signed_posts,
         signed_responses: s.signed_responses,
+        refuse_padding: false,
     };
     let images = only_running(hash);
     let assigned = none_assigned();

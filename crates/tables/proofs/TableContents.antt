@@ -54,30 +54,30 @@ unfoldable pub fieldsIn : (T : Table) → Values T → List Content
 fieldsIn end v = []
 fieldsIn (row n k T) v = kindFields k n (v .0) ++ fieldsIn T (v .1)
 
--- the numbers of the contents
+-- the numbers of the contents, none of which is padded
 abbrev pub Of : ℕ → Content → Type 0
-Of n f = f .number ≡ n
+Of n f = (f .number ≡ n) × (f .padded ≡ false)
 
 pub kind-number : (k : Kind) (n : ℕ) (v : Value k) → Each (Of n) (kindFields k n v)
 unfolding kindFields
-kind-number uint32 n v = each-map (Of n) (numberContent n) (λ x. refl) (listed v)
-kind-number bool n v = each-map (Of n) (λ (b : Bool). numberContent n (flagNumber b)) (λ b. refl) (listed v)
-kind-number bytes n v = each-map (Of n) (bytesContent n) (λ bs. refl) (listed v)
-kind-number string n v = each-map (Of n) (bytesContent n) (λ bs. refl) (listed v)
-kind-number strings n v = each-map (Of n) (bytesContent n) (λ bs. refl) v
-kind-number (message T) n v = each-map (Of n) (λ (m : Values T). bytesContent n (writeBy T m)) (λ m. refl) (listed v)
-kind-number (messages T) n v = each-map (Of n) (λ (m : Values T). bytesContent n (writeBy T m)) (λ m. refl) v
+kind-number uint32 n v = each-map (Of n) (numberContent n) (λ x. (refl, refl)) (listed v)
+kind-number bool n v = each-map (Of n) (λ (b : Bool). numberContent n (flagNumber b)) (λ b. (refl, refl)) (listed v)
+kind-number bytes n v = each-map (Of n) (bytesContent n) (λ bs. (refl, refl)) (listed v)
+kind-number string n v = each-map (Of n) (bytesContent n) (λ bs. (refl, refl)) (listed v)
+kind-number strings n v = each-map (Of n) (bytesContent n) (λ bs. (refl, refl)) v
+kind-number (message T) n v = each-map (Of n) (λ (m : Values T). bytesContent n (writeBy T m)) (λ m. (refl, refl)) (listed v)
+kind-number (messages T) n v = each-map (Of n) (λ (m : Values T). bytesContent n (writeBy T m)) (λ m. (refl, refl)) v
 
 abbrev pub Above : ℕ → Content → Type 0
-Above b f = b < f .number
+Above b f = (b < f .number) × (f .padded ≡ false)
 
 pub table-numbers : (T : Table) (b : ℕ) (v : Values T) → Ordered b T → Each (Above b) (fieldsIn T v)
 unfolding fieldsIn
 table-numbers end b v o = tt
 table-numbers (row n k T) b v o =
     each-append (Above b) (kindFields k n (v .0)) (fieldsIn T (v .1))
-    (each-so (Of n) (Above b) (λ f e. omega arith) (kindFields k n (v .0)) (kind-number k n (v .0)))
-    (each-so (Above n) (Above b) (λ f e. omega arith) (fieldsIn T (v .1)) (table-numbers T n (v .1) (o .3)))
+    (each-so (Of n) (Above b) (λ f e. (omega arith, e .1)) (kindFields k n (v .0)) (kind-number k n (v .0)))
+    (each-so (Above n) (Above b) (λ f e. (omega arith, e .1)) (fieldsIn T (v .1)) (table-numbers T n (v .1) (o .3)))
 
 spells-kind : (k : Kind) (n : ℕ) (v : Value k) → 0 < n → n < 2 ^ 29 → SmallValue k v → Spells (written k n v) (kindFields k n v)
 unfolding written ifAny kindFields

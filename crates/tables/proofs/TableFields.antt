@@ -2,6 +2,7 @@
 use Prim.Native.Nat.{ℕ, _+_, _*_, _-_, _/_, _%_, _^_, _<_}
 use mathlib.Core.Path.{_≡_, refl, sym, ap, _∙_}
 use mathlib.Core.List.{List, [], _∷_, _++_, map, append-assoc}
+use mathlib.Core.Bool.{false}
 use native.Mathlib.Nat.{sub-self}
 use native.Mathlib.Omega.{arith}
 use lib.ListN.{length, take, drop, length-append}
@@ -19,10 +20,10 @@ use Rattle.protobuf.proofs.FieldLaws.{field-tagged, field-within, fields-more}
 
 -- a field as it is written
 abbrev pub numberContent : ℕ → ℕ → Content
-numberContent n v = record { number = n; wire = 0; value = v; bytes = [] }
+numberContent n v = record { number = n; wire = 0; value = v; bytes = []; padded = false }
 
 abbrev pub bytesContent : ℕ → List ℕ → Content
-bytesContent n bs = record { number = n; wire = 2; value = 0; bytes = bs }
+bytesContent n bs = record { number = n; wire = 2; value = 0; bytes = bs; padded = false }
 
 -- the contents from a position on
 unfoldable pub readFrom : List ℕ → ℕ → Walked Content
@@ -49,11 +50,11 @@ spells-field front bs rest {f} {c} e z k =
 
 -- a written tag leads to the content behind it
 tag-back : (s front : List ℕ) (key n w : ℕ) (rest : List ℕ) → s ≡ front ++ (varint key ++ rest) → key ≡ n * 8 + w → 0 < n → n < 2 ^ 29 → w < 8
-    → fieldAt s (length front) ≡ contentAt s n w (length front + length (varint key))
+    → fieldAt s (length front) ≡ contentAt s n w false (length front + length (varint key))
 tag-back s front key n w rest e q h k l =
     let d : key / 8 ≡ n = omega arith in
     let m : key % 8 ≡ w = omega arith in
-    rw (field-tagged s (length front) key _ (varint-back s front key rest (length front) e refl (omega arith)) (omega arith) (omega arith), d, m)
+    rw (field-tagged s (length front) key _ false (varint-back s front key rest (length front) e refl (omega arith)) (omega arith) (omega arith), d, m)
 
 pub spells-number : (n v : ℕ) → 0 < n → n < 2 ^ 29 → v < 2 ^ 64 → Spells (numberField n v) (numberContent n v ∷ [])
 unfolding numberField two contentAt numbered
@@ -62,7 +63,7 @@ spells-number n v h k l short front rest =
     let s = front ++ (numberField n v ++ rest) in
     spells-field front (numberField n v) rest
     (tag-back s front (n * 8) n 0 (varint v ++ rest) (simp append-assoc) (omega arith) h k (omega arith)
-    ∙ ap (numbered n) (varint-back s (front ++ key) v rest (length front + length key) (simp append-assoc) (sym (length-append front key)) l))
+    ∙ ap (numbered n false) (varint-back s (front ++ key) v rest (length front + length key) (simp append-assoc) (sym (length-append front key)) l))
     (simp length-append (omega arith))
     (rw (sub-self (length front + length key + length (varint v))))
 
@@ -84,6 +85,6 @@ spells-bytes n bs h k short front rest =
     let e = ap (_++_ front) (delimited-split key bs rest) in
     spells-field front (bytesField n bs) rest
     (tag-back s front key n 2 (varint (length bs) ++ (bs ++ rest)) e refl h k (omega arith)
-    ∙ ap (held n) (delimited-back s (front ++ varint key) bs rest mid (e ∙ sym (append-assoc front (varint key) (varint (length bs) ++ (bs ++ rest)))) (sym (length-append front (varint key))) (omega arith)))
+    ∙ ap (held n false) (delimited-back s (front ++ varint key) bs rest mid (e ∙ sym (append-assoc front (varint key) (varint (length bs) ++ (bs ++ rest)))) (sym (length-append front (varint key))) (omega arith)))
     (simp length-append (omega arith))
     (ap (bytesContent n) (between front (two key (length bs)) bs rest start (start + length bs) (simp length-append (omega arith)) refl))

@@ -2,7 +2,7 @@
 use Prim.Native.Nat.{ℕ, zero, suc, _+_, _-_, _≤_}
 use mathlib.Core.Path.{_≡_, refl, sym, ap}
 use mathlib.Core.List.{List, [], _∷_, _++_, map, append-nil, append-assoc}
-use mathlib.Core.Bool.{Bool, true, _&&_, and-true, and-assoc}
+use mathlib.Core.Bool.{Bool, true, false, _&&_, _||_, and-true, and-assoc, or-false, or-assoc}
 use native.Mathlib.Nat.{zero-add, suc-add}
 use native.Mathlib.Omega.{arith}
 use borrow.Author.Tests.{eq-eqb, ne-eqb, eqb-true, eqb-false}
@@ -12,15 +12,16 @@ use lib.Seq.{take-at, drop-at, getD-at, set-at, getD-append-seam, getD-append-ad
 use Rattle.buffer.specs.Pick.{pick}
 use Rattle.buffer.specs.Walk.{walk}
 use Rattle.protobuf.specs.Field.{fields, bytesOf}
-use Rattle.message.specs.Read.{wireOf, rowStep, firstRow, rowIn, firstOf, noted, scanned, heldRead, knownRead, fieldRead, allRead}
-use Rattle.message.specs.Read.{messageRead, readInto}
+use Rattle.message.specs.Read.{wireOf, rowStep, firstRow, rowIn, firstOf, noted, unpadded, scanned, heldRead, knownRead, fieldRead, allRead}
+use Rattle.message.specs.Read.{joined, messageRead, readInto}
 use Rattle.tables.specs.Table.{Kind, uint32, bool, bytes, string, strings, message, messages, Table, end, row, Content, contentOf, contents}
-use Rattle.tables.specs.Table.{heldReadable, fieldReadable, allReadable, readableTo, readable}
+use Rattle.tables.specs.Table.{heldTells, fieldTells, allReadable, readableTo, readable, anyPadded, paddedTo, padded}
 use Rattle.tables.specs.Found.{kindNumber, wireOfKind, heldRows, rowsOf, Cell, Held, Found, noneFound, Placed, placedAt, placed, cellWith}
-use Rattle.tables.specs.Found.{eachIn, heldWith, foundWith, foundIn, heldCells, cellsOf}
+use Rattle.tables.specs.Found.{eachIn, heldWith, foundWith, foundIn, heldCells, cellsOf, readingOf}
 use Rattle.tables.specs.Statements.{OrderedKind, Ordered, kindLevels, levels}
 use Rattle.protobuf.specs.declared.Field.{Field}
 use Rattle.message.specs.declared.Known.the-variants.{Row as Knows}
+use Rattle.message.specs.declared.Reading.{Reading}
 use Rattle.buffer.proofs.Tests.{split}
 use Rattle.tables.proofs.TableReadable.{levels-some}
 use Rattle.message.proofs.RowLaws.{rows-end, rows-more}
@@ -89,21 +90,31 @@ found-later (row n k T) b g p o h =
     rw (ne-eqb (p .content .number) n (omega arith)) (ap (λ (x : Found T). (g .0, x)) (found-later T n (g .1) p (o .3) (omega arith)))
 
 -- a field with another wire type is not read further
-kind-other : (read : Table → List ℕ → Bool) (k : Kind) (c : Content) → (c .wire ≡ wireOfKind k → ⊥) → heldReadable read k c ≡ true
-unfolding heldReadable wireOf
-kind-other read uint32 c h = refl
-kind-other read bool c h = refl
-kind-other read bytes c h = refl
-kind-other read string c h = refl
-kind-other read strings c h = refl
-kind-other read (message U) c h = rw (ne-eqb (c .wire) 2 h)
-kind-other read (messages U) c h = rw (ne-eqb (c .wire) 2 h)
+kind-other : (none : Bool) (read : Table → List ℕ → Bool) (k : Kind) (c : Content) → (c .wire ≡ wireOfKind k → ⊥) → heldTells none read k c ≡ none
+unfolding heldTells wireOf
+kind-other none read uint32 c h = refl
+kind-other none read bool c h = refl
+kind-other none read bytes c h = refl
+kind-other none read string c h = refl
+kind-other none read strings c h = refl
+kind-other none read (message U) c h = rw (ne-eqb (c .wire) 2 h)
+kind-other none read (messages U) c h = rw (ne-eqb (c .wire) 2 h)
+
+-- what is told of a message of at most d levels, of what a row's field holds, and of a field
+abbrev toldTo : ℕ → Table → List ℕ → Reading
+toldTo d T s = record { readable = readableTo d T s; padded = paddedTo d T s }
+
+abbrev toldOf : ℕ → Kind → Content → Reading
+toldOf d k c = record { readable = heldTells true (readableTo d) k c; padded = heldTells false (paddedTo d) k c }
+
+abbrev toldBy : ℕ → Table → Content → Reading
+toldBy d T c = record { readable = fieldTells true (readableTo d) T c; padded = fieldTells false (paddedTo d) T c }
 
 -- what is proved of the messages of at most d levels
 abbrev Walks : ℕ → Type 0
 Walks d =
     (T : Table) (g : Found T) (base : ℕ) (s : List ℕ) → Ordered 0 T → levels T ≤ d
-    → messageRead d (rowsOf T) (cellsOf T g) base s ≡ scanned (readableTo d T s) (cellsOf T (eachIn (foundWith T) g (placed base s)))
+    → messageRead d (rowsOf T) (cellsOf T g) base s ≡ scanned (toldTo d T s) (cellsOf T (eachIn (foundWith T) g (placed base s)))
 
 module _ (d : ℕ) (ih : Walks d) where
   -- one row, behind as many numbers of the table as were found
@@ -112,7 +123,7 @@ module _ (d : ℕ) (ih : Walks d) where
     held-part : (U : Table) (g : Found U) (c : Cell) (k m base : ℕ) (bs : List ℕ) → Ordered 0 U → levels U ≤ d
         → heldRead (messageRead d) (front ++ (n ∷ k ∷ m ∷ (rowsOf U ++ rest))) (cfront ++ cellThen c (cellsOf U g ++ crest))
         (length front + 3) (length front + 3 + length (rowsOf U)) base bs
-        ≡ scanned (readableTo d U bs) (cfront ++ cellThen c (cellsOf U (eachIn (foundWith U) g (placed base bs)) ++ crest))
+        ≡ scanned (toldTo d U bs) (cfront ++ cellThen c (cellsOf U (eachIn (foundWith U) g (placed base bs)) ++ crest))
     unfolding heldRead
     held-part U g c k m base bs o l =
         let a = length front + 3 in
@@ -137,11 +148,11 @@ module _ (d : ℕ) (ih : Walks d) where
     module _ (base : ℕ) (s : List ℕ) (f : Field) where
       -- a field with the wire type of its row's kind is read further where that holds a message
       kind-held : (k : Kind) (h : Held k) (c : Cell) → OrderedKind k → kindLevels k ≤ d → f .wire ≡ wireOfKind k
-          → pick (ltb (kindNumber k) 11) (scanned true (cfront ++ cellsWith k (c, h) crest))
+          → pick (ltb (kindNumber k) 11) (scanned (unpadded true) (cfront ++ cellsWith k (c, h) crest))
           (heldRead (messageRead d) (front ++ rowWith n k rest) (cfront ++ cellsWith k (c, h) crest)
           (length front + 3) (length front + 3 + length (heldRows k)) (base + f .start) (bytesOf s f))
-          ≡ scanned (heldReadable (readableTo d) k (contentOf s f)) (cfront ++ cellsWith k (c, heldWith k h (placedAt base s f)) crest)
-      unfolding heldReadable wireOf heldRows heldCells heldWith
+          ≡ scanned (toldOf d k (contentOf s f)) (cfront ++ cellsWith k (c, heldWith k h (placedAt base s f)) crest)
+      unfolding heldTells wireOf heldRows heldCells heldWith
       kind-held uint32 h c o l w = refl
       kind-held bool h c o l w = refl
       kind-held bytes h c o l w = refl
@@ -154,7 +165,7 @@ module _ (d : ℕ) (ih : Walks d) where
       this-row : (k : Kind) (x : Cell × Held k) → OrderedKind k → kindLevels k ≤ d
           → knownRead (messageRead d) (front ++ rowWith n k rest) (cfront ++ cellsWith k x crest) base s f
           (Knows (kindNumber k) (length front) (length front + 3 + length (heldRows k)))
-          ≡ scanned (heldReadable (readableTo d) k (contentOf s f))
+          ≡ scanned (toldOf d k (contentOf s f))
           (cfront ++ cellsWith k (pick (eqb (f .wire) (wireOfKind k)) (cellWith (x .0) (placedAt base s f), heldWith k (x .1) (placedAt base s f)) x) crest)
       unfolding knownRead
       this-row k x o l =
@@ -163,15 +174,15 @@ module _ (d : ℕ) (ih : Walks d) where
           (λ h. let q = eqb-true (f .wire) w h in
           rw (h, eq-eqb w (f .wire) (sym q), noted-at cfront (x .0) (heldCells k (x .1) ++ crest) (length front) base s f same)
           (kind-held k (x .1) (cellWith (x .0) (placedAt base s f)) o l q))
-          (λ h. let q = eqb-false (f .wire) w h in rw (h, ne-eqb w (f .wire) (λ r. q (sym r)), kind-other (readableTo d) k (contentOf s f) q))
+          (λ h. let q = eqb-false (f .wire) w h in rw (h, ne-eqb w (f .wire) (λ r. q (sym r)), kind-other true (readableTo d) k (contentOf s f) q, kind-other false (paddedTo d) k (contentOf s f) q))
 
   module _ (base : ℕ) (s : List ℕ) (f : Field) where
     -- a field, by the rows behind a front
     field-from : (T : Table) (b : ℕ) (g : Found T) (front cfront : List ℕ) → length cfront ≡ length front → Ordered b T → levels T ≤ suc d
         → knownRead (messageRead d) (front ++ rowsOf T) (cfront ++ cellsOf T g) base s f
         (firstRow (f .number) (walk rowStep (front ++ rowsOf T) (length front) .items))
-        ≡ scanned (fieldReadable (readableTo d) T (contentOf s f)) (cfront ++ cellsOf T (foundWith T g (placedAt base s f)))
-    unfolding rowsOf cellsOf foundWith fieldReadable knownRead
+        ≡ scanned (toldBy d T (contentOf s f)) (cfront ++ cellsOf T (foundWith T g (placedAt base s f)))
+    unfolding rowsOf cellsOf foundWith fieldTells knownRead
     field-from end b g front cfront same o l = rw (append-nil front, rows-end front (f .number) (length front) (omega arith))
     field-from (row n k T) b g front cfront same o l =
         let m = f .number in
@@ -207,33 +218,39 @@ module _ (d : ℕ) (ih : Walks d) where
     -- a field, by a whole table
     field-read : (g : Found T) (f : Field)
         → fieldRead (messageRead d) (rowsOf T) (cellsOf T g) base s f
-        ≡ scanned (fieldReadable (readableTo d) T (contentOf s f)) (cellsOf T (foundWith T g (placedAt base s f)))
+        ≡ scanned (toldBy d T (contentOf s f)) (cellsOf T (foundWith T g (placedAt base s f)))
     unfolding fieldRead rowIn
     field-read g f = field-from base s f T 0 g [] [] refl o l
 
     -- the fields one by one
-    all-read : (g : Found T) (t w : Bool) (fs : List Field)
+    all-read : (g : Found T) (t : Reading) (w : Bool) (fs : List Field)
         → allRead (messageRead d) (rowsOf T) base s t (cellsOf T g) w fs
-        ≡ scanned (w && (t && allReadable (readableTo d) T (map (contentOf s) fs))) (cellsOf T (eachIn (foundWith T) g (map (placedAt base s) fs)))
-    unfolding allRead allReadable eachIn
-    all-read g t w [] = rw (and-true t)
+        ≡ scanned
+        (record {
+          readable = w && (t .readable && allReadable (readableTo d) T (map (contentOf s) fs));
+          padded = t .padded || anyPadded (paddedTo d) T (map (contentOf s) fs);
+        })
+        (cellsOf T (eachIn (foundWith T) g (map (placedAt base s) fs)))
+    unfolding allRead allReadable anyPadded eachIn
+    all-read g t w [] = rw (and-true (t .readable), or-false (t .padded))
     all-read g t w (f ∷ fs) =
-        let r = fieldReadable (readableTo d) T (contentOf s f) in
+        let r = toldBy d T (contentOf s f) in
         rw (
           field-read g f,
-          all-read (foundWith T g (placedAt base s f)) (t && r) w fs,
-          and-assoc t r (allReadable (readableTo d) T (map (contentOf s) fs)),
+          all-read (foundWith T g (placedAt base s f)) (joined t (f .padded) r) w fs,
+          and-assoc (t .readable) (r .readable) (allReadable (readableTo d) T (map (contentOf s) fs)),
+          or-assoc (t .padded) (f .padded || r .padded) (anyPadded (paddedTo d) T (map (contentOf s) fs)),
         )
 
 -- a message of at most so many levels
 walks-to : (d : ℕ) → Walks d
-unfolding messageRead readableTo contents placed
+unfolding messageRead readableTo paddedTo contents placed
 walks-to zero T g base s o l = absurd (let z = levels-some T in omega arith)
-walks-to (suc d) T g base s o l = all-read d (walks-to d) T base s o l g true (fields s .whole) (fields s .items)
+walks-to (suc d) T g base s o l = all-read d (walks-to d) T base s o l g (unpadded true) (fields s .whole) (fields s .items)
 
--- the walk by a table's numbers says whether a value can be read by the table, and finds what the table says
+-- the walk by a table's numbers says whether a value can be read by the table and is padded, and finds what the table says
 pub walks : (T : Table) (s : List ℕ) → Ordered 0 T → levels T ≤ 4
-    → readInto (rowsOf T) (cellsOf T (noneFound T)) s ≡ scanned (readable T s) (cellsOf T (foundIn T s))
-unfolding readInto readable foundIn
+    → readInto (rowsOf T) (cellsOf T (noneFound T)) s ≡ scanned (readingOf T s) (cellsOf T (foundIn T s))
+unfolding readInto readable padded foundIn
 walks T s o l =
     rw (eq-eqb (length (cellsOf T (noneFound T))) (length (rowsOf T)) (cells-length T (noneFound T))) (walks-to 4 T (noneFound T) 0 s o l)

@@ -2,15 +2,15 @@
 use Prim.Native.Nat.{ℕ, _^_, _<_}
 use mathlib.Core.Path.{_≡_, ap, _∙_}
 use mathlib.Core.List.{List, []}
-use mathlib.Core.Bool.{Bool, true}
+use mathlib.Core.Bool.{true, false}
 use lib.ListN.{length}
 use Rattle.message.specs.Read.{Scan, scanned, readInto, Scanned}
 use Rattle.message.specs.declared.Reading.{Reading}
 use Rattle.tables.specs.Found.{rowsOf, noneFound, cellsOf, foundIn, readingOf}
 use Rattle.tables.specs.Statements.{Formed, Small, RoundTrip, OneReader}
-use Rattle.tables.specs.Table.{Table, Values, readable, readBy, writeBy}
+use Rattle.tables.specs.Table.{Table, Values, readable, padded, readBy, writeBy}
 use Rattle.tables.proofs.TableContents.{Fit}
-use Rattle.tables.proofs.TableReadable.{message-readable, table-readable}
+use Rattle.tables.proofs.TableReadable.{written-readable, written-unpadded}
 use Rattle.tables.proofs.TableTells.{tells}
 use Rattle.tables.proofs.TableValues.{nested-back, values-back}
 use Rattle.tables.proofs.TableWalk.{walks}
@@ -25,10 +25,14 @@ module _ {T : Table} (f : Formed T) (v : Values T) (m : Small T v) (n : length (
 
   read-whole : readable T (writeBy T v) ≡ true
   unfolding readable
-  read-whole = message-readable 4 T v (f .shallow) fit (λ d l. table-readable T d 0 v l fit)
+  read-whole = written-readable 4 T v (f .shallow) fit
+
+  read-unpadded : padded T (writeBy T v) ≡ false
+  unfolding padded
+  read-unpadded = written-unpadded 4 T v (f .shallow) fit
 
 pub round-trip : RoundTrip
-round-trip T f = record { whole = read-whole f; back = read-back f; unchanged = λ v s m n e. rw e (ap (writeBy T) (read-back f v m n)) }
+round-trip T f = record { whole = read-whole f; unpadded = read-unpadded f; back = read-back f; unchanged = λ v s m n e. rw e (ap (writeBy T) (read-back f v m n)) }
 
 pub one-reader : OneReader
 one-reader = record { walks = λ T s f. walks T s (f .ordered) (f .shallow); tells = tells }
@@ -36,11 +40,11 @@ one-reader = record { walks = λ T s f. walks T s (f .ordered) (f .shallow); tel
 -- a value read by the numbers of a table
 module _ (T : Table) (f : Formed T) (s : List ℕ) {table cells : List ℕ} (p : table ≡ rowsOf T) (q : cells ≡ cellsOf T (noneFound T))
     {r : Reading} {left : List ℕ} (x : Scanned (readInto table cells s) r left) where
-  by-table : readInto table cells s ≡ scanned (readable T s) (cellsOf T (foundIn T s))
+  by-table : readInto table cells s ≡ scanned (readingOf T s) (cellsOf T (foundIn T s))
   by-table = rw (p, q) (walks T s (f .ordered) (f .shallow))
 
   pub told-by : r ≡ readingOf T s
-  told-by = ap (λ (t : Bool). record { readable = t }) (x .readable ∙ ap (λ (y : Scan). y .readable) by-table)
+  told-by = x .reading ∙ ap (λ (y : Scan). y .reading) by-table
 
   pub found-by : left ≡ cellsOf T (foundIn T s)
   found-by = x .cells ∙ ap (λ (y : Scan). y .cells) by-table

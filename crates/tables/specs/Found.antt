@@ -12,7 +12,7 @@ use Rattle.protobuf.specs.declared.Field.{Field}
 use Rattle.protobuf.specs.declared.Flag.{Flag}
 use Rattle.protobuf.specs.declared.Number.{Number}
 use Rattle.message.specs.declared.Reading.{Reading}
-use Rattle.tables.specs.Table.{Kind, uint32, bool, bytes, string, strings, message, messages, Table, end, row, Content, contentOf, readable}
+use Rattle.tables.specs.Table.{Kind, uint32, bool, bytes, string, strings, message, messages, Table, end, row, Content, contentOf, readable, padded}
 
 -- the number of a kind: below 8 a varint, from 11 on what holds messages
 abbrev pub kindNumber : Kind → ℕ
@@ -154,4 +154,4 @@ bytesIn c = placeOf (c .count) (c .first) (c .stop)
 
 -- what the walk tells of a value as a whole
 abbrev pub readingOf : Table → List ℕ → Reading
-readingOf T s = record { readable = readable T s }
+readingOf T s = record { readable = readable T s; padded = padded T s }

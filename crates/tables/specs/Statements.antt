@@ -2,14 +2,14 @@
 use Prim.Native.Nat.{ℕ, suc, _^_, max, min, _≤_, _<_}
 use mathlib.Core.Path.{_≡_}
 use mathlib.Core.List.{List}
-use mathlib.Core.Bool.{true}
+use mathlib.Core.Bool.{true, false}
 use mathlib.Core.Option.{none, some}
 use lib.ListN.{length}
 use Rattle.protobuf.specs.Each.{IfAny, Each}
 use Rattle.protobuf.specs.Given.{numberGiven, flagGiven, bytesGiven}
 use Rattle.message.specs.Read.{readInto, scanned}
-use Rattle.tables.specs.Table.{Kind, uint32, bool, bytes, string, strings, message, messages, Table, end, row, Value, Values, readable, readBy, writeBy}
-use Rattle.tables.specs.Found.{rowsOf, Cell, Held, Found, noneFound, foundIn, cellsOf, numberIn, flagIn, bytesIn}
+use Rattle.tables.specs.Table.{Kind, uint32, bool, bytes, string, strings, message, messages, Table, end, row, Value, Values, readable, padded, readBy, writeBy}
+use Rattle.tables.specs.Found.{rowsOf, Cell, Held, Found, noneFound, foundIn, cellsOf, numberIn, flagIn, bytesIn, readingOf}
 
 -- field numbers ascend, are not 0, and leave room for the wire type below 2^32
 abbrev mutual
@@ -61,9 +61,10 @@ pub record Formed (T : Table) : Type 0 where
   pub ordered : Ordered 0 T
   pub shallow : levels T ≤ 4
 
--- values that are written read back as the same values, and bytes in the written form come out unchanged
+-- values that are written read back as the same values, are not padded, and bytes in the written form come out unchanged
 pub record RoundTripped (T : Table) : Type 0 where
   pub whole : (v : Values T) → Small T v → length (writeBy T v) < 2 ^ 64 → readable T (writeBy T v) ≡ true
+  pub unpadded : (v : Values T) → Small T v → length (writeBy T v) < 2 ^ 64 → padded T (writeBy T v) ≡ false
   pub back : (v : Values T) → Small T v → length (writeBy T v) < 2 ^ 64 → readBy T (writeBy T v) ≡ v
   pub unchanged : (v : Values T) (s : List ℕ) → Small T v → length (writeBy T v) < 2 ^ 64 → s ≡ writeBy T v → writeBy T (readBy T s) ≡ s
 
@@ -92,9 +93,9 @@ abbrev mutual
   TellsAll s end g v = Unit {0}
   TellsAll s (row n k T) g v = Tells s k (g .0) (v .0) × TellsAll s T (g .1) (v .1)
 
--- one reader for every table: the walk by the table's numbers says whether a value can be read by the table, and what it finds tells the
+-- one reader for every table: the walk by the table's numbers says whether a value can be read by the table and is padded, and what it finds tells the
 -- values that the table reads; of what repeats it tells how many there are
 pub record OneReader : Type 0 where
   pub walks : (T : Table) (s : List ℕ) → Formed T
-      → readInto (rowsOf T) (cellsOf T (noneFound T)) s ≡ scanned (readable T s) (cellsOf T (foundIn T s))
+      → readInto (rowsOf T) (cellsOf T (noneFound T)) s ≡ scanned (readingOf T s) (cellsOf T (foundIn T s))
   pub tells : (T : Table) (s : List ℕ) → TellsAll s T (foundIn T s) (readBy T s)

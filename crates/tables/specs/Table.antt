@@ -1,7 +1,8 @@
--- Messages by tables: one definition reads by a table of the known fields, one writes by it (document 01, "Records and fields").
+-- Messages by tables: one definition reads by a table of the known fields, one writes by it (document 01, "Records and fields"); padding, document
+-- 02, Q-8.
 use Prim.Native.Nat.{ℕ, zero, suc, _%_, _^_}
 use mathlib.Core.List.{List, [], _∷_, _++_, map}
-use mathlib.Core.Bool.{Bool, true, false, not, _&&_}
+use mathlib.Core.Bool.{Bool, true, false, not, _&&_, _||_}
 use mathlib.Core.Option.{Option, none, some}
 use lib.Dec.{eqb}
 use Rattle.buffer.specs.Pick.{pick}
@@ -39,15 +40,16 @@ abbrev mutual
   Values end = Unit {0}
   Values (row n k T) = Value k × Values T
 
--- a field by what it holds, wherever it stood
+-- a field by what it holds, wherever it stood, and whether it is padded
 pub record Content : Type 0 where
   pub number : ℕ
   pub wire : ℕ
   pub value : ℕ
   pub bytes : List ℕ
+  pub padded : Bool
 
 abbrev pub contentOf : List ℕ → Field → Content
-contentOf s f = record { number = f .number; wire = f .wire; value = f .value; bytes = bytesOf s f }
+contentOf s f = record { number = f .number; wire = f .wire; value = f .value; bytes = bytesOf s f; padded = f .padded }
 
 unfoldable pub contents : List ℕ → List Content
 contents s = map (contentOf s) (fields s .items)
@@ -100,25 +102,26 @@ unfoldable mutual
 unfoldable pub readBy : (T : Table) → List ℕ → Values T
 readBy T s = valuesOf T (contents s)
 
+-- what the messages tell that fields hold; `nothing` is told of a field that has no row, or another wire type, or whose row holds no message: it is
+-- not read further
+module _ (nothing : Bool) (read : Table → List ℕ → Bool) where
+  unfoldable pub heldTells : Kind → Content → Bool
+  heldTells uint32 f = nothing
+  heldTells bool f = nothing
+  heldTells bytes f = nothing
+  heldTells string f = nothing
+  heldTells strings f = nothing
+  heldTells (message T) f = pick (eqb (f .wire) 2) (read T (f .bytes)) nothing
+  heldTells (messages T) f = pick (eqb (f .wire) 2) (read T (f .bytes)) nothing
+
+  unfoldable pub fieldTells : Table → Content → Bool
+  fieldTells end f = nothing
+  fieldTells (row n k T) f = pick (eqb (f .number) n) (heldTells k f) (fieldTells T f)
+
 -- and whether it can be read: its fields to the end, and so the messages that they hold
-module _ (read : Table → List ℕ → Bool) where
-  -- a field with another wire type, or whose row holds no message, is not read further
-  unfoldable pub heldReadable : Kind → Content → Bool
-  heldReadable uint32 f = true
-  heldReadable bool f = true
-  heldReadable bytes f = true
-  heldReadable string f = true
-  heldReadable strings f = true
-  heldReadable (message T) f = pick (eqb (f .wire) 2) (read T (f .bytes)) true
-  heldReadable (messages T) f = pick (eqb (f .wire) 2) (read T (f .bytes)) true
-
-  unfoldable pub fieldReadable : Table → Content → Bool
-  fieldReadable end f = true
-  fieldReadable (row n k T) f = pick (eqb (f .number) n) (heldReadable k f) (fieldReadable T f)
-
-  unfoldable pub allReadable : Table → List Content → Bool
-  allReadable T [] = true
-  allReadable T (f ∷ fs) = fieldReadable T f && allReadable T fs
+unfoldable pub allReadable : (Table → List ℕ → Bool) → Table → List Content → Bool
+allReadable read T [] = true
+allReadable read T (f ∷ fs) = fieldTells true read T f && allReadable read T fs
 
 -- a message of at most so many levels, itself the first; nesting stops at 4
 unfoldable pub readableTo : ℕ → Table → List ℕ → Bool
@@ -127,6 +130,19 @@ readableTo (suc d) T s = fields s .whole && allReadable (readableTo d) T (conten
 
 unfoldable pub readable : Table → List ℕ → Bool
 readable T s = readableTo 4 T s
+
+-- document 02, Q-8: whether a varint that is read is padded: every tag, length and number, those of skipped fields too, and so in the messages
+-- that fields hold; the bytes of a skipped field don't count
+unfoldable pub anyPadded : (Table → List ℕ → Bool) → Table → List Content → Bool
+anyPadded read T [] = false
+anyPadded read T (f ∷ fs) = (f .padded || fieldTells false read T f) || anyPadded read T fs
+
+unfoldable pub paddedTo : ℕ → Table → List ℕ → Bool
+paddedTo zero T s = false
+paddedTo (suc d) T s = anyPadded (paddedTo d) T (contents s)
+
+unfoldable pub padded : Table → List ℕ → Bool
+padded T s = paddedTo 4 T s
 
 -- WRITING: fields ascending, shortest varints, present fields only, zeros included
 abbrev pub flagNumber : Bool → ℕ

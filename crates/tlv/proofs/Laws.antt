@@ -1,8 +1,8 @@
 -- Laws of a record and of the walk over records, one step each.
 use Prim.Native.Nat.{ℕ, _≤_, _<_}
-use mathlib.Core.Path.{_≡_, refl, ap}
-use mathlib.Core.List.{List}
-use mathlib.Core.Bool.{true, false}
+use mathlib.Core.Path.{_≡_, refl, sym, ap, _∙_}
+use mathlib.Core.List.{List, map}
+use mathlib.Core.Bool.{Bool, true, false, _||_, or-false, or-assoc}
 use native.Mathlib.Omega.{arith}
 use lib.ListN.{length}
 use Rattle.buffer.specs.Walk.{item, ended, joined}
@@ -13,7 +13,7 @@ use Rattle.varint.specs.declared.Delimited.the-variants.{At, Unreadable as Cut}
 use Rattle.varint.specs.declared.Varint.{Varint}
 use Rattle.varint.specs.declared.Varint.the-variants.{Number, Unreadable as Unspelt}
 use Rattle.varint.proofs.Theorems.{inside}
-use Rattle.tlv.specs.Record.{ofValue, ofKind, recordAt, stepped, recordStep, recordsFrom}
+use Rattle.tlv.specs.Record.{ofValue, ofKind, recordAt, stepped, recordStep, recordsFrom, valued, records, paddedAmong}
 use Rattle.tlv.specs.declared.Record.{Record}
 use Rattle.tlv.specs.declared.Taken.{Taken}
 use Rattle.tlv.specs.declared.Taken.the-variants.{Record as Whole, Unreadable}
@@ -24,14 +24,15 @@ pub record-inside : (s : List ℕ) (at : ℕ) (r : Record) → recordAt s at ≡
 unfolding recordAt ofKind ofValue
 record-inside s at r e = go (varintAt s at) refl e
   where
-    value : (kind : ℕ) (d : Delimited) → ofValue kind d ≡ Whole r → d ≡ At (r .start) (r .end)
-    value kind (At start end) q = cc
-    value kind Cut q = let z : _≡_ {A = ℕ} 0 1 = cc in absurd (omega arith)
+    value : (kind : ℕ) (o : Bool) (d : Delimited) → ofValue kind o d ≡ Whole r → (p : Bool) × (d ≡ At (r .start) (r .end) p)
+    value kind o (At start end p) q = (p, cc)
+    value kind o Cut q = let z : _≡_ {A = ℕ} 0 1 = cc in absurd (omega arith)
 
     go : (v : Varint) → varintAt s at ≡ v → ofKind s v ≡ Whole r → (at < r .start) × (r .start ≤ r .end) × (r .end ≤ length s)
-    go (Number kind mid) p q =
-        let i = inside s at kind mid p in
-        let d = delimited-inside s mid (r .start) (r .end) (value kind (delimitedAt s mid) q) in
+    go (Number kind mid o) p q =
+        let i = inside s at kind mid o p in
+        let h = value kind o (delimitedAt s mid) q in
+        let d = delimited-inside s mid (r .start) (r .end) (h .0) (h .1) in
         (omega arith, omega arith, omega arith)
     go Unspelt p q = let z : _≡_ {A = ℕ} 0 1 = cc in absurd (omega arith)
 
@@ -64,3 +65,26 @@ records-more s at r e =
 pub records-unreadable : (s : List ℕ) (at : ℕ) → at < length s → recordAt s at ≡ Unreadable → recordsFrom s at ≡ ended false
 unfolding recordsFrom recordStep
 records-unreadable s at h e = walk-unreadable recordStep s at h (ap stepped e)
+
+-- whether one of them is padded, with what was found before the position
+module _ (inside : ℕ → List ℕ → Bool) (s : List ℕ) where
+  unfoldable pub paddedFrom : ℕ → Bool
+  paddedFrom at = paddedAmong inside (map (valued s) (recordsFrom s at .items))
+
+  pub padded-start : paddedAmong inside (records s) ≡ (false || paddedFrom 0)
+  unfolding records paddedFrom
+  padded-start = refl
+
+  module _ (at : ℕ) {all : Bool} (before : Bool) (inv : all ≡ (before || paddedFrom at)) where
+    pub padded-end : length s ≤ at → before ≡ all
+    unfolding paddedFrom paddedAmong
+    padded-end h = sym (inv ∙ rw (records-end s at h) (or-false before))
+
+    pub padded-unreadable : at < length s → recordAt s at ≡ Unreadable → before ≡ all
+    unfolding paddedFrom paddedAmong
+    padded-unreadable h e = sym (inv ∙ rw (records-unreadable s at h e) (or-false before))
+
+    pub padded-more : (r : Record) {x here next : Bool} → recordAt s at ≡ Whole r → x ≡ inside (r .kind) (valued s r .value) → here ≡ (r .padded || x) → next ≡ (before || here)
+        → all ≡ (next || paddedFrom (r .end))
+    unfolding paddedFrom paddedAmong
+    padded-more r e f h k = inv ∙ rw (records-more s at r e, k, h, f) (sym (or-assoc before (r .padded || inside (r .kind) (valued s r .value)) (paddedFrom (r .end))))

@@ -1,7 +1,8 @@
--- Records, document 01, "Records and fields": a record is varint type, varint length, value.
+-- Records, document 01, "Records and fields": a record is varint type, varint length, value. Document 02, Q-8: padded where its type or its
+-- length is.
 use Prim.Native.Nat.{ℕ, _-_}
 use mathlib.Core.List.{List, [], _∷_, _++_, map}
-use mathlib.Core.Bool.{Bool}
+use mathlib.Core.Bool.{Bool, false, _||_}
 use lib.ListN.{take, drop}
 use Rattle.buffer.specs.Walk.{Step, item, unreadable, Walked, walk}
 use Rattle.varint.specs.Varint.{varintAt, delimitedAt, delimited}
@@ -14,13 +15,13 @@ use Rattle.tlv.specs.declared.Taken.{Taken}
 use Rattle.tlv.specs.declared.Taken.the-variants.{Record as Whole, Unreadable}
 
 -- the record of a type, where its value stands
-unfoldable pub ofValue : ℕ → Delimited → Taken
-ofValue kind (At start end) = Whole (record { kind = kind; start = start; end = end })
-ofValue kind Cut = Unreadable
+unfoldable pub ofValue : ℕ → Bool → Delimited → Taken
+ofValue kind padded (At start end paddedLength) = Whole (record { kind = kind; start = start; end = end; padded = padded || paddedLength })
+ofValue kind padded Cut = Unreadable
 
 -- the same, once its type is read
 unfoldable pub ofKind : List ℕ → Varint → Taken
-ofKind s (Number kind mid) = ofValue kind (delimitedAt s mid)
+ofKind s (Number kind mid padded) = ofValue kind padded (delimitedAt s mid)
 ofKind s Unspelt = Unreadable
 
 -- the record at a position of a payload
@@ -39,13 +40,14 @@ recordStep s at = stepped (recordAt s at)
 unfoldable pub recordsFrom : List ℕ → ℕ → Walked Record
 recordsFrom s at = walk recordStep s at
 
--- a record by its value, wherever it stood
+-- a record by its value, wherever it stood, and whether it is padded
 pub record Tlv : Type 0 where
   pub kind : ℕ
   pub value : List ℕ
+  pub padded : Bool
 
 abbrev pub valued : List ℕ → Record → Tlv
-valued s r = record { kind = r .kind; value = take (r .end - r .start) (drop (r .start) s) }
+valued s r = record { kind = r .kind; value = take (r .end - r .start) (drop (r .start) s); padded = r .padded }
 
 -- the records of a payload by their values
 unfoldable pub records : List ℕ → List Tlv
@@ -54,6 +56,11 @@ records s = map (valued s) (recordsFrom s 0 .items)
 -- whether a payload can be read to its end
 unfoldable pub readable : List ℕ → Bool
 readable s = recordsFrom s 0 .whole
+
+-- document 02, Q-8: whether a record is padded: its type or its length, those of skipped records too, or, by its type, what is read of its value
+unfoldable pub paddedAmong : (ℕ → List ℕ → Bool) → List Tlv → Bool
+paddedAmong inside [] = false
+paddedAmong inside (t ∷ ts) = (t .padded || inside (t .kind) (t .value)) || paddedAmong inside ts
 
 -- writing: shortest varints
 abbrev pub recordBytes : ℕ → List ℕ → List ℕ

@@ -6,11 +6,13 @@ ghost use Rattle.buffer.specs.Put.{Put};
 ghost use Rattle.tlv.specs.Record.{recordBytes};
 pub use reader::take_record;
 
-// A record of a payload: its type, and its value's bytes from `start` up to `end`, where the next record begins.
+// A record of a payload: its type, its value's bytes from `start` up to `end`, where the next record begins, and whether its type or its length
+// is padded.
 pub struct Record {
     pub kind: u64,
     pub start: usize,
     pub end: usize,
+    pub padded: bool,
 }
 
 // What stands at a position.

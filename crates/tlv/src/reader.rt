@@ -16,13 +16,18 @@ pub struct Reader<'a> {
 fn record_at(s: &[u8], at: usize) -> Taken
     ensures { λ r. ⌜ r ≡ recordAt (now (s .entry)) at ⌝ }
 {
-    let Varint::Number(kind, mid) = varint::read(s, at) else {
+    let Varint::Number(kind, mid, padded_kind) = varint::read(s, at) else {
         return Taken::Unreadable;
     };
-    let Delimited::At(start, end) = varint::read_delimited(s, mid) else {
+    let Delimited::At(start, end, padded_len) = varint::read_delimited(s, mid) else {
         return Taken::Unreadable;
     };
-    Taken::Record(Record { kind, start, end })
+    Taken::Record(Record {
+        kind,
+        start,
+        end,
+        padded: buffer::either(padded_kind, padded_len),
+    })
 }
 
 // A reader at a position of the payload.

@@ -131,7 +131,7 @@ from s i b h e = rw (add-one, e, drop-cons s i 0)
 
 -- reading, a byte b at i at a time, with `left` bytes allowed after it
 module _ (s : List ℕ) (i b : ℕ) (h : i < length s) (e : b ≡ getD s i 0) where
-  pub read-last : (left : ℕ) → left ≡ 0 → b < 2 → spelt left (drop i s) i ≡ Number b (i + 1)
+  pub read-last : (left : ℕ) → left ≡ 0 → b < 2 → spelt left (drop i s) i ≡ Number b (i + 1) false
   unfolding spelt
   read-last left z k = rw (z, from s i b h e, lt-ltb b 2 k)
 
@@ -139,7 +139,7 @@ module _ (s : List ℕ) (i b : ℕ) (h : i < length s) (e : b ≡ getD s i 0) wh
   unfolding spelt
   read-over left z k = rw (z, from s i b h e, le-ltb b 2 k)
 
-  pub read-digit : (left : ℕ) → (left ≡ 0 → ⊥) → b < 128 → spelt left (drop i s) i ≡ Number b (i + 1)
+  pub read-digit : (left : ℕ) → (left ≡ 0 → ⊥) → b < 128 → spelt left (drop i s) i ≡ Number b (i + 1) false
   unfolding spelt
   read-digit zero z k = absurd (z refl)
   read-digit (suc left) z k = rw (from s i b h e, lt-ltb b 128 k)

@@ -1,2 +1,3 @@
 pub mod Varint
 pub mod Statements
+pub mod Before

@@ -1,8 +1,9 @@
--- Varints, document 01, "Records and fields" (Protocol Buffers encoding, "Base 128 Varints").
+-- Varints, document 01, "Records and fields" (Protocol Buffers encoding, "Base 128 Varints"); padded ones, document 02, Q-8.
 use Prim.Native.Nat.{ℕ, zero, suc, _+_, _*_, _/_, _%_}
 use mathlib.Core.List.{List, [], _∷_, _++_}
+use mathlib.Core.Bool.{Bool, false, _||_}
 use lib.ListN.{length, drop}
-use lib.Dec.{ltb}
+use lib.Dec.{eqb, ltb}
 use Rattle.buffer.specs.Pick.{pick}
 use Rattle.buffer.specs.Stretch.{stretch}
 use Rattle.buffer.specs.declared.Stretch.{Stretch}
@@ -12,18 +13,18 @@ use Rattle.varint.specs.declared.Delimited.the-variants.{At, Unreadable 
 use Rattle.varint.specs.declared.Varint.{Varint}
 use Rattle.varint.specs.declared.Varint.the-variants.{Number, Unreadable}
 
--- a byte with more behind it gives its low seven bits
+-- a byte with more behind it gives its low seven bits; where the rest is 0 its bytes add nothing, and the spelling is padded
 unfoldable pub more : ℕ → Varint → Varint
-more b (Number v next) = Number (b % 128 + 128 * v) next
+more b (Number v next padded) = Number (b % 128 + 128 * v) next (padded || eqb v 0)
 more b Unreadable = Unreadable
 
 -- the number spelt by the first bytes of a list that stands at `at`: k bytes may follow the first, and one after which none may is 0 or 1
 unfoldable pub spelt : ℕ → List ℕ → ℕ → Varint
 spelt k [] at = Unreadable
-spelt zero (b ∷ s) at = pick (ltb b 2) (Number b (at + 1)) Unreadable
-spelt (suc k) (b ∷ s) at = pick (ltb b 128) (Number b (at + 1)) (more b (spelt k s (at + 1)))
+spelt zero (b ∷ s) at = pick (ltb b 2) (Number b (at + 1) false) Unreadable
+spelt (suc k) (b ∷ s) at = pick (ltb b 128) (Number b (at + 1) false) (more b (spelt k s (at + 1)))
 
--- the number at a position: at most ten bytes, and longer spellings are read
+-- the number at a position: at most ten bytes; longer spellings are read, and said to be padded
 unfoldable pub varintAt : List ℕ → ℕ → Varint
 varintAt s at = spelt 9 (drop at s) at
 
@@ -40,6 +41,10 @@ spelling (suc k) v = pick (ltb v 128) (v ∷ []) (continued (v % 128) ∷ spelli
 unfoldable pub varint : ℕ → List ℕ
 varint v = spelling 9 v
 
+-- padded: the bytes from a position up to the next are more than the shortest spelling of the number has
+unfoldable pub isLonger : ℕ → ℕ → ℕ → Bool
+isLonger at v next = ltb (at + length (varint v)) next
+
 -- two numbers, one after the other
 unfoldable pub two : ℕ → ℕ → List ℕ
 two a b = varint a ++ varint b
@@ -48,13 +53,13 @@ two a b = varint a ++ varint b
 unfoldable pub delimited : ℕ → List ℕ → List ℕ
 delimited key bs = two key (length bs) ++ bs
 
--- the bytes of a length that was read, where they end in the slice
-unfoldable pub ofStretch : ℕ → Stretch → Delimited
-ofStretch start (To end) = At start end
-ofStretch start Outside = Cut
+-- the bytes of a length that was read, padded or not, where they end in the slice
+unfoldable pub ofStretch : ℕ → Bool → Stretch → Delimited
+ofStretch start padded (To end) = At start end padded
+ofStretch start padded Outside = Cut
 
 unfoldable pub ofLength : List ℕ → Varint → Delimited
-ofLength s (Number n start) = ofStretch start (stretch (length s) start n)
+ofLength s (Number n start padded) = ofStretch start padded (stretch (length s) start n)
 ofLength s Unreadable = Cut
 
 -- the bytes behind the length at a position

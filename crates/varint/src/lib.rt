@@ -2,21 +2,21 @@
 ghost use Prim.Native.Nat.{ℕ, _^_, _≤_, _<_};
 ghost use mathlib.Core.Path.{_≡_};
 ghost use lib.ListN.{length, drop};
-ghost use mathlib.Core.Bool.{true};
+ghost use mathlib.Core.Bool.{Bool, true};
 ghost use Rattle.buffer.specs.Put.{Put};
 ghost use Rattle.buffer.specs.Stretch.{fits};
 ghost use Rattle.varint.specs.Varint.{more, spelt, varintAt, varint, two, delimitedAt, delimited};
 use buffer::Stretch;
 
-// What stands at a position: a number and where the next byte is, or nothing readable.
+// What stands at a position: a number, where the next byte is, and whether its spelling is padded, longer than the shortest; or nothing readable.
 pub enum Varint {
-    Number(u64, usize),
+    Number(u64, usize, bool),
     Unreadable,
 }
 
-// Where length-delimited bytes stand: their start and their end.
+// Where length-delimited bytes stand: their start and their end, and whether their length is padded.
 pub enum Delimited {
-    At(usize, usize),
+    At(usize, usize, bool),
     Unreadable,
 }
 
@@ -29,7 +29,7 @@ pub fn read(s: &[u8], at: usize) -> Varint
     }
     let b = buffer::wide(s[at]);
     if b < 128 {
-        return Varint::Number(b, at + 1);
+        return Varint::Number(b, at + 1, false);
     }
     joined(b, read_second(s, at + 1))
 }
@@ -43,7 +43,7 @@ fn read_second(s: &[u8], at: usize) -> Varint
     }
     let b = buffer::wide(s[at]);
     if b < 128 {
-        return Varint::Number(b, at + 1);
+        return Varint::Number(b, at + 1, false);
     }
     joined(b, read_bounded(s, at + 1, 7))
 }
@@ -59,38 +59,38 @@ fn read_bounded(s: &[u8], at: usize, left: u32) -> Varint
     let b = buffer::wide(s[at]);
     if left == 0 {
         if b < 2 {
-            return Varint::Number(b, at + 1);
+            return Varint::Number(b, at + 1, false);
         }
         return Varint::Unreadable;
     }
     if b < 128 {
-        return Varint::Number(b, at + 1);
+        return Varint::Number(b, at + 1, false);
     }
     joined(b, read_bounded(s, at + 1, left - 1))
 }
 
-// The number whose low seven bits are those of `b`, and whose others are the number behind it.
+// The number whose low seven bits are those of `b`, and whose others are the number behind it. Where that is 0, its bytes add nothing.
 fn joined(b: u64, behind: Varint) -> Varint
-    requires { ⌜ ((v next : ℕ) → behind ≡ Varint.Number v next → v < 2 ^ 57) ⌝ }
+    requires { ⌜ ((v next : ℕ) (p : Bool) → behind ≡ Varint.Number v next p → v < 2 ^ 57) ⌝ }
     ensures { λ r. ⌜ r ≡ more b behind ⌝ }
 {
-    let Varint::Number(v, next) = behind else {
+    let Varint::Number(v, next, padded) = behind else {
         return Varint::Unreadable;
     };
-    Varint::Number(b % 128 + 128 * v, next)
+    Varint::Number(b % 128 + 128 * v, next, buffer::either(padded, v == 0))
 }
 
 // The bytes behind a length that stands at `at`.
 pub fn read_delimited(s: &[u8], at: usize) -> Delimited
     ensures { λ r. ⌜ r ≡ delimitedAt (now (s .entry)) at ⌝ }
 {
-    let Varint::Number(len, start) = read(s, at) else {
+    let Varint::Number(len, start, padded) = read(s, at) else {
         return Delimited::Unreadable;
     };
     let Stretch::To(end) = buffer::end_of(s, start, len) else {
         return Delimited::Unreadable;
     };
-    Delimited::At(start, end)
+    Delimited::At(start, end, padded)
 }
 
 // How many bytes the shortest spelling of `v` has: ten, less one for every seven zeros at the top of their

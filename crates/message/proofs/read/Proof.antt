@@ -20,7 +20,7 @@ same-length c = search needs
 returns-2 : tie.Need-returns-2
 returns-2 c =
     let x = c .before .before .read-message in
-    leaves _ _ (into-same _ _ _ (c .before .before .before .before .if1 .left)) (x .ensures .readable) (x .ensures .cells)
+    leaves _ _ (into-same _ _ _ (c .before .before .before .before .if1 .left)) (x .ensures .reading) (x .ensures .cells)
 
 pub read-spec : {M : Type 1} → statement M
 read-spec = tie.close (tie.spec told-requires returns read-message-requires same-length returns-2)

@@ -14,7 +14,7 @@ mark-requires : tie.Need-mark-requires
 mark-requires c κs = search needs
 
 returns : tie.Need-returns
-returns c = group-is _ _ _ _ _ (c .before .before .read-group .ensures) (c .before .with-group .ensures) (c .mark .ensures)
+returns c h = group-is _ _ _ _ _ (c .before .before .read-group .ensures) h (c .before .with-group .ensures) (c .mark .ensures)
 
 pub note-group-spec : {M : Type 1} → statement M
 note-group-spec =

@@ -13,15 +13,12 @@ is-followed-requires c κs = search needs
 either-requires : tie.Need-either-requires
 either-requires c κs = search needs
 
-read-redirect-requires : tie.Need-read-redirect-requires
-read-redirect-requires c κs = search needs
-
 mark-requires : tie.Need-mark-requires
 mark-requires c κs = search needs
 
 returns : tie.Need-returns
 unfolding redirectNoted
-returns c = rw (c .mark .ensures, c .before .read-redirect .ensures, c .before .before .either .ensures, c .before .before .before .is-followed .ensures, c .before .before .before .before .redirect .ensures)
+returns c h = rw (c .mark .ensures, h, c .before .either .ensures, c .before .before .is-followed .ensures, c .before .before .before .redirect .ensures)
 
 pub note-redirect-spec : {M : Type 1} → statement M
 note-redirect-spec =
@@ -30,6 +27,5 @@ note-redirect-spec =
     redirect-requires
     is-followed-requires
     either-requires
-    read-redirect-requires
     mark-requires
     returns)

@@ -7,15 +7,12 @@ use Rattle.note.proofs.note_session.Tie as tie
 with-session-requires : tie.Need-with-session-requires
 with-session-requires c κs = search needs
 
-read-session-requires : tie.Need-read-session-requires
-read-session-requires c κs = search needs
-
 mark-requires : tie.Need-mark-requires
 mark-requires c κs = search needs
 
 returns : tie.Need-returns
-returns c = session-is _ _ _ _ _ (c .before .read-session .ensures) (c .mark .ensures) (c .before .before .with-session .ensures)
+returns c h = session-is _ _ _ _ h (c .mark .ensures) (c .before .with-session .ensures)
 
 pub note-session-spec : {M : Type 1} → statement M
 note-session-spec =
-    tie.close (tie.spec with-session-requires read-session-requires mark-requires returns)
+    tie.close (tie.spec with-session-requires mark-requires returns)

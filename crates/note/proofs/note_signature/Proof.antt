@@ -4,15 +4,12 @@ use borrow.Author.Needs.{needs}
 use Rattle.note.proofs.note_signature.Statement.{statement}
 use Rattle.note.proofs.note_signature.Tie as tie
 
-read-signature-requires : tie.Need-read-signature-requires
-read-signature-requires c κs = search needs
-
 mark-requires : tie.Need-mark-requires
 mark-requires c κs = search needs
 
 returns : tie.Need-returns
 unfolding signatureNoted
-returns c = rw (c .mark .ensures, c .before .read-signature .ensures)
+returns c v h = rw (c .mark .ensures, h)
 
 pub note-signature-spec : {M : Type 1} → statement M
-note-signature-spec = tie.close (tie.spec read-signature-requires mark-requires returns)
+note-signature-spec = tie.close (tie.spec mark-requires returns)

@@ -10,17 +10,14 @@ is-expired-requires c κs = search needs
 either-requires : tie.Need-either-requires
 either-requires c κs = search needs
 
-read-validity-requires : tie.Need-read-validity-requires
-read-validity-requires c κs = search needs
-
 mark-requires : tie.Need-mark-requires
 mark-requires c κs = search needs
 
 returns : tie.Need-returns
 unfolding validityNoted
-returns c = rw (c .mark .ensures, c .before .read-validity .ensures, c .before .before .either .ensures, c .before .before .before .is-expired .ensures)
+returns c h = rw (c .mark .ensures, h, c .before .either .ensures, c .before .before .is-expired .ensures)
 
 pub note-validity-spec : {M : Type 1} → statement M
 note-validity-spec =
     tie.close
-    (tie.spec is-expired-requires either-requires read-validity-requires mark-requires returns)
+    (tie.spec is-expired-requires either-requires mark-requires returns)

@@ -5,9 +5,6 @@ use Rattle.post.specs.Judge.{noted}
 use Rattle.post.proofs.note.Statement.{statement}
 use Rattle.post.proofs.note.Tie as tie
 
-is-readable-requires : tie.Need-is-readable-requires
-is-readable-requires c κs = search needs
-
 both-requires : tie.Need-both-requires
 both-requires c κs = search needs
 
@@ -35,18 +32,29 @@ is-forbidden-requires c κs = search needs
 either-requires-5 : tie.Need-either-requires-5
 either-requires-5 c κs = search needs
 
-add-t13 : tie.Need-add-t13
-add-t13 c = let h = c .before .before .before .before .before .before .before .before .before .before .before .before .pre in omega arith
+add-t14 : tie.Need-add-t14
+add-t14 c = let h = c .before .before .before .before .before .before .before .before .before .before .before .pre .0 in omega arith
 
 returns : tie.Need-returns
 unfolding noted
-returns c = cc
+returns c =
+    rw (
+      c .before .either5 .ensures,
+      c .before .before .is-forbidden .ensures,
+      c .before .before .before .either4 .ensures,
+      c .before .before .before .before .is-match .ensures,
+      c .before .before .before .before .before .either3 .ensures,
+      c .before .before .before .before .before .before .either2 .ensures,
+      c .before .before .before .before .before .before .before .is-expired .ensures,
+      c .before .before .before .before .before .before .before .before .either .ensures,
+      c .before .before .before .before .before .before .before .before .before .both .ensures,
+      c .before .before .before .before .before .before .before .before .before .before .before .pre .1,
+    )
 
 pub note-spec : {M : Type 1} → statement M
 note-spec =
     tie.close
     (tie.spec
-    is-readable-requires
     both-requires
     either-requires
     is-expired-requires
@@ -56,5 +64,5 @@ note-spec =
     either-requires-4
     is-forbidden-requires
     either-requires-5
-    add-t13
+    add-t14
     returns)

@@ -16,12 +16,17 @@ enum-told c = search needs
 
 returns : tie.Need-returns
 unfolding held
-returns c = sym (ap (held _) (sym (c .before .before .read-delimited .ensures) ∙ c .enum-told .given .1))
+returns c = sym (ap (held _ _) (sym (c .before .before .read-delimited .ensures) ∙ c .enum-told .given .1))
+
+either-requires : tie.Need-either-requires
+either-requires c κs = search needs
 
 returns-2 : tie.Need-returns-2
 unfolding held
-returns-2 c = sym (ap (held _) (sym (c .before .before .before .read-delimited .ensures) ∙ c .before .start .given .1))
+returns-2 c =
+    rw (c .either .ensures) (sym (ap (held _ _) (sym (c .before .before .before .before .read-delimited .ensures) ∙ c .before .before .start .given .1)))
 
 pub bytes-at-spec : {M : Type 1} → statement M
 bytes-at-spec =
-    tie.close (tie.spec read-delimited-requires enum-known-start enum-told returns returns-2)
+    tie.close
+    (tie.spec read-delimited-requires enum-known-start enum-told returns either-requires returns-2)

@@ -20,11 +20,11 @@ returns c =
 
 returns-2 : tie.Need-returns-2
 returns-2 c =
-    sym (field-large _ _ _ _ (sym (c .before .before .before .before .read .ensures) ∙ c .before .before .tag .given .1) (c .if1 .taken))
+    sym (field-large _ _ _ _ _ (sym (c .before .before .before .before .read .ensures) ∙ c .before .before .tag .given .1) (c .if1 .taken))
 
 returns-3 : tie.Need-returns-3
 returns-3 c =
-    sym (field-zero _ _ _ _ (sym (c .before .before .before .before .before .read .ensures) ∙ c .before .before .before .tag .given .1) (c .before .if1 .left) (c .if2 .taken))
+    sym (field-zero _ _ _ _ _ (sym (c .before .before .before .before .before .read .ensures) ∙ c .before .before .before .tag .given .1) (c .before .if1 .left) (c .if2 .taken))
 
 cast-content-at : tie.Need-cast-content-at
 cast-content-at c = search needs
@@ -37,7 +37,7 @@ content-at-requires c κs = search needs
 
 returns-4 : tie.Need-returns-4
 returns-4 c =
-    c .content-at .ensures ∙ sym (field-tagged _ _ _ _ (sym (c .before .before .before .before .before .before .read .ensures) ∙ c .before .before .before .before .tag .given .1) (c .before .before .if1 .left) (c .before .if2 .left))
+    c .content-at .ensures ∙ sym (field-tagged _ _ _ _ _ (sym (c .before .before .before .before .before .before .read .ensures) ∙ c .before .before .before .before .tag .given .1) (c .before .before .if1 .left) (c .before .if2 .left))
 
 pub field-at-spec : {M : Type 1} → statement M
 field-at-spec =

@@ -16,11 +16,11 @@ enum-told c = search needs
 
 returns : tie.Need-returns
 unfolding spanned
-returns c = sym (ap (spanned _ _ _) (sym (c .before .before .end-of .ensures) ∙ c .enum-told .given .1))
+returns c = sym (ap (spanned _ _ _ _) (sym (c .before .before .end-of .ensures) ∙ c .enum-told .given .1))
 
 returns-2 : tie.Need-returns-2
 unfolding spanned
-returns-2 c = sym (ap (spanned _ _ _) (sym (c .before .before .before .end-of .ensures) ∙ c .before .end .given .1))
+returns-2 c = sym (ap (spanned _ _ _ _) (sym (c .before .before .before .end-of .ensures) ∙ c .before .end .given .1))
 
 pub span-at-spec : {M : Type 1} → statement M
 span-at-spec = tie.close (tie.spec end-of-requires enum-known-end enum-told returns returns-2)

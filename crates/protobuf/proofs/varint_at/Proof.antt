@@ -16,11 +16,16 @@ enum-told c = search needs
 
 returns : tie.Need-returns
 unfolding numbered
-returns c = sym (ap (numbered _) (sym (c .before .before .read .ensures) ∙ c .enum-told .given .1))
+returns c = sym (ap (numbered _ _) (sym (c .before .before .read .ensures) ∙ c .enum-told .given .1))
+
+either-requires : tie.Need-either-requires
+either-requires c κs = search needs
 
 returns-2 : tie.Need-returns-2
 unfolding numbered
-returns-2 c = sym (ap (numbered _) (sym (c .before .before .before .read .ensures) ∙ c .before .value .given .1))
+returns-2 c =
+    rw (c .either .ensures) (sym (ap (numbered _ _) (sym (c .before .before .before .before .read .ensures) ∙ c .before .before .value .given .1)))
 
 pub varint-at-spec : {M : Type 1} → statement M
-varint-at-spec = tie.close (tie.spec read-requires enum-known-value enum-told returns returns-2)
+varint-at-spec =
+    tie.close (tie.spec read-requires enum-known-value enum-told returns either-requires returns-2)

@@ -22,7 +22,7 @@ take-front-requires c κs = search needs
 returns : tie.Need-returns
 returns c =
     let a = c .before .before .before .before .before .before .before .before .args in
-    begun-error (a .images) (a .groups) (a .«signed-posts») (a .flash .now) (a .payload .now) (a .time) (a .verdict) (c .before .before .before .before .before .look .ensures .seen) (c .before .before .before .judge .ensures) (c .before .code .given .1)
+    begun-error (a .images) (a .groups) (a .«signed-posts») (a .«refuse-padding») (a .flash .now) (a .payload .now) (a .time) (a .verdict) (c .before .before .before .before .before .look .ensures) (c .before .before .before .judge .ensures) (c .before .code .given .1)
 
 same-length : tie.Need-same-length
 same-length c = search needs
@@ -30,7 +30,7 @@ same-length c = search needs
 returns-2 : tie.Need-returns-2
 returns-2 c =
     let a = c .before .before .before .before .before .before .before .before .before .before .before .args in
-    begun-run (a .images) (a .groups) (a .«signed-posts») (a .flash .now) (a .payload .now) (a .time) (a .verdict) (c .before .before .before .before .before .before .before .before .look .ensures .seen) (c .before .before .before .before .before .before .judge .ensures) (c .before .before .before .before .enum-told .given .1) (c .before .before .take-front .ensures)
+    begun-run (a .images) (a .groups) (a .«signed-posts») (a .«refuse-padding») (a .flash .now) (a .payload .now) (a .time) (a .verdict) (c .before .before .before .before .before .before .before .before .look .ensures) (c .before .before .before .before .before .before .judge .ensures) (c .before .before .before .before .enum-told .given .1) (c .before .before .take-front .ensures)
 
 pub begin-spec : {M : Type 1} → statement M
 begin-spec =

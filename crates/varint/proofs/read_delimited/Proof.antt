@@ -33,13 +33,13 @@ returns-2 : tie.Need-returns-2
 unfolding delimitedAt ofLength ofStretch
 returns-2 c =
     let s = c .before .before .before .before .before .before .before .before .args .s .now in
-    sym (ap (ofLength s) (sym (c .before .before .before .before .before .before .read .ensures) ∙ c .before .before .before .before .len .given .1) ∙ ap (ofStretch _) (sym (c .before .before .end-of .ensures) ∙ c .enum-told2 .given .1))
+    sym (ap (ofLength s) (sym (c .before .before .before .before .before .before .read .ensures) ∙ c .before .before .before .before .len .given .1) ∙ ap (ofStretch _ _) (sym (c .before .before .end-of .ensures) ∙ c .enum-told2 .given .1))
 
 returns-3 : tie.Need-returns-3
 unfolding delimitedAt ofLength ofStretch
 returns-3 c =
     let s = c .before .before .before .before .before .before .before .before .before .args .s .now in
-    sym (ap (ofLength s) (sym (c .before .before .before .before .before .before .before .read .ensures) ∙ c .before .before .before .before .before .len .given .1) ∙ ap (ofStretch _) (sym (c .before .before .before .end-of .ensures) ∙ c .before .end .given .1))
+    sym (ap (ofLength s) (sym (c .before .before .before .before .before .before .before .read .ensures) ∙ c .before .before .before .before .before .len .given .1) ∙ ap (ofStretch _ _) (sym (c .before .before .before .end-of .ensures) ∙ c .before .end .given .1))
 
 pub read-delimited-spec : {M : Type 1} → statement M
 read-delimited-spec =

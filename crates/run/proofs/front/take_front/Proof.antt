@@ -13,7 +13,7 @@ same-length c = search needs
 returns : tie.Need-returns
 returns c =
     let i = c .before .before .before .before .before .before .before .before .before .before .before .args .images in
-    (refl, c .before .before .take-blocks .ensures i refl refl (record { sized = refl; blocked = refl; mapped = refl; counted = refl }))
+    (refl, refl, c .before .before .take-blocks .ensures i refl refl (record { sized = refl; blocked = refl; mapped = refl; counted = refl }))
 
 pub take-front-spec : {M : Type 1} → statement M
 take-front-spec = tie.close (tie.spec take-blocks-requires same-length returns)

@@ -33,13 +33,16 @@ returns-2 : tie.Need-returns-2
 unfolding recordAt ofKind ofValue
 returns-2 c =
     let s = c .before .before .before .before .before .before .before .before .args .s .now in
-    sym (ap (ofKind s) (sym (c .before .before .before .before .before .before .read .ensures) ∙ c .before .before .before .before .kind .given .1) ∙ ap (ofValue _) (sym (c .before .before .read-delimited .ensures) ∙ c .enum-told2 .given .1))
+    sym (ap (ofKind s) (sym (c .before .before .before .before .before .before .read .ensures) ∙ c .before .before .before .before .kind .given .1) ∙ ap (ofValue _ _) (sym (c .before .before .read-delimited .ensures) ∙ c .enum-told2 .given .1))
+
+either-requires : tie.Need-either-requires
+either-requires c κs = search needs
 
 returns-3 : tie.Need-returns-3
 unfolding recordAt ofKind ofValue
 returns-3 c =
-    let s = c .before .before .before .before .before .before .before .before .before .args .s .now in
-    sym (ap (ofKind s) (sym (c .before .before .before .before .before .before .before .read .ensures) ∙ c .before .before .before .before .before .kind .given .1) ∙ ap (ofValue _) (sym (c .before .before .before .read-delimited .ensures) ∙ c .before .start .given .1))
+    let s = c .before .before .before .before .before .before .before .before .before .before .args .s .now in
+    rw (c .either .ensures) (sym (ap (ofKind s) (sym (c .before .before .before .before .before .before .before .before .read .ensures) ∙ c .before .before .before .before .before .before .kind .given .1) ∙ ap (ofValue _ _) (sym (c .before .before .before .before .read-delimited .ensures) ∙ c .before .before .start .given .1)))
 
 pub record-at-spec : {M : Type 1} → statement M
 record-at-spec =
@@ -53,4 +56,5 @@ record-at-spec =
     enum-known-start
     enum-told-2
     returns-2
+    either-requires
     returns-3)
