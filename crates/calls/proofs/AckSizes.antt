@@ -1,13 +1,13 @@
 -- An acknowledgement that is taken keeps the sizes; redirects, which posts bring too.
-use Prim.Native.Nat.{ℕ, _-_, _≤_}
+use Prim.Native.Nat.{ℕ, _≤_}
 use mathlib.Core.Path.{_≡_}
 use mathlib.Core.List.{List, [], _∷_}
 use mathlib.Core.Bool.{Bool, true, false, not, _&&_}
+use mathlib.Core.Logic.{inr}
 use mathlib.Core.Option.{Option, none, some}
 use native.Mathlib.Omega.{arith}
-use borrow.Author.Tests.{not-true, leb-true, leb-false, eqb-true}
+use borrow.Author.Tests.{not-true, leb-false, eqb-true}
 use lib.Dec.{eqb, leb}
-use lib.ListN.{length, length-take}
 use Rattle.assign.specs.Assign.{sessionIdOf, inSession, withSession, withReport, placeOf, regrouped}
 use Rattle.assign.specs.declared.Regrouped.{Regrouped}
 use Rattle.note.specs.Note.{nothingLearnt, marked, redirectNoted, sessionNoted, reportNoted, withRegrouped, groupAssigned, grouped, withGroup, groupNoted, validityNoted, signatureNoted, noted}
@@ -28,8 +28,6 @@ use Rattle.decimal.specs.declared.Ids.{Ids}
 use Rattle.post.specs.Judge.{badlySigned}
 use Rattle.protobuf.specs.Each.{IfAny}
 use Rattle.protobuf.specs.Given.{bytesGiven}
-use Rattle.protobuf.specs.declared.Bytes.{Bytes}
-use Rattle.protobuf.specs.declared.Bytes.the-variants.{At, Absent}
 use Rattle.protobuf.specs.declared.Number.{Number}
 use Rattle.protobuf.specs.declared.Number.the-variants.{Given, Absent as NoNumber}
 use Rattle.registration.specs.Redirect.{restarted, isSet, follow, urlIn, redirected}
@@ -41,42 +39,40 @@ use Rattle.state.specs.declared.Registration.{Registration}
 use Rattle.state.specs.declared.State.{State}
 use Rattle.tlv.specs.Record.{Tlv, records, readable}
 use Rattle.calls.proofs.Pairs.{with-pairs, with-few, with-differ}
+use Rattle.calls.proofs.TextLaws.{ShortText, text-held, short-text, url-text, session-text, report-small}
 use Rattle.calls.specs.Made.{DeviceSized, AssignedSized, RegistrationSized, Sized}
 
--- bytes over their size make a value unreadable
-bytes-short : (n : ℕ) (v : List ℕ) (b : Bytes) → atMost n b ≡ true → IfAny (λ (l : List ℕ). length l ≤ n) (bytesGiven v b)
-unfolding atMost
-bytes-short n v (At start stop) h =
-    let k = leb-true (stop - start) n h in
-    simp length-take (omega arith)
-bytes-short n v Absent h = tt
-
--- record 6
+-- record 6: a URL over its size, or one that is no text, makes it unreadable
 module _ (d : Device) (r : Registration) (k : DeviceSized d) (s : RegistrationSized d r) where
-  follow-sized : (url : Option (List ℕ)) (immediate : Bool) → IfAny (λ (l : List ℕ). length l ≤ 128) url
+  follow-sized : (url : Option (List ℕ)) (immediate : Bool) → IfAny (ShortText 128) url
       → RegistrationSized d (follow d r url immediate)
   unfolding follow restarted urlOf
   follow-sized none immediate h = s
   follow-sized (some []) immediate h = s
-  follow-sized (some (b ∷ bs)) immediate h = record { url = (omega arith, h); interval = (omega arith, k .low .1) }
+  follow-sized (some (b ∷ bs)) immediate h =
+      let t = text-held 128 (b ∷ bs) h in
+      record { url = (omega arith, t .0); text = inr (t .1); interval = (omega arith, k .low .1) }
 
   pub redirect-sized : (v : List ℕ) → redirectOf v .reading .readable ≡ true → RegistrationSized d (redirected d r v)
   unfolding redirected urlIn redirectOf
   redirect-sized v h =
       let t = both (fits redirect v) (atMost 128 (redirectOf v .url)) h in
-      follow-sized (bytesGiven v (redirectOf v .url)) (isSet (redirectOf v .immediate)) (bytes-short 128 v (redirectOf v .url) (t .1))
+      follow-sized (bytesGiven v (redirectOf v .url)) (isSet (redirectOf v .immediate))
+      (short-text 128 v (redirectOf v .url) (t .1) (url-text v h))
 
--- record 7
-in-session-sized : (a : Assigned) → AssignedSized a → (id : Option (List ℕ)) → IfAny (λ (l : List ℕ). length l ≤ 64) id → AssignedSized (inSession a id)
+-- record 7, likewise
+in-session-sized : (a : Assigned) → AssignedSized a → (id : Option (List ℕ)) → IfAny (ShortText 64) id → AssignedSized (inSession a id)
 unfolding sessionIdOf
 in-session-sized a s none h = s
-in-session-sized a s (some id) h = record { list = s .list; groups = s .groups; types = s .types; session = h; ids = s .ids }
+in-session-sized a s (some id) h =
+    let t = text-held 64 id h in
+    record { list = s .list; groups = s .groups; types = s .types; session = t .0; text = t .1; ids = s .ids; each = s .each }
 
 session-sized : (a : Assigned) → AssignedSized a → (v : List ℕ) → sessionOf v .reading .readable ≡ true → AssignedSized (withSession a v)
 unfolding withSession sessionOf
 session-sized a s v h =
     let t = both (fits session v) (atMost 64 (sessionOf v .id)) h in
-    in-session-sized a s (bytesGiven v (sessionOf v .id)) (bytes-short 64 v (sessionOf v .id) (t .1))
+    in-session-sized a s (bytesGiven v (sessionOf v .id)) (short-text 64 v (sessionOf v .id) (t .1) (session-text v h))
 
 -- record 13: a list takes 32 ids and no more
 abbrev Few : Ids → Type 0
@@ -98,10 +94,22 @@ unfolding withEntries withEntry
 few-entries ids [] h = h
 few-entries ids (t ∷ ts) h = few-entries (withEntry ids t) ts (few-id ids (idOf t) h)
 
-report-sized : (a : Assigned) → AssignedSized a → (v : List ℕ) → AssignedSized (withReport a v)
-unfolding withReport reportOf
-report-sized a s v =
-    record { list = s .list; groups = s .groups; types = s .types; session = s .session; ids = few-entries noIds _ (omega arith) }
+few-read : (v : List ℕ) → Few (reportOf v .ids)
+unfolding reportOf
+few-read v = few-entries noIds _ (omega arith)
+
+report-sized : (a : Assigned) → AssignedSized a → (v : List ℕ) → reportOf v .reading .readable ≡ true → AssignedSized (withReport a v)
+unfolding withReport
+report-sized a s v h =
+    record {
+      list = s .list;
+      groups = s .groups;
+      types = s .types;
+      session = s .session;
+      text = s .text;
+      ids = few-read v;
+      each = report-small v h;
+    }
 
 -- a record of one type is of no other
 pub unlike : (k n m : ℕ) → eqb k n ≡ true → eqb n m ≡ false → eqb k m ≡ false
@@ -152,8 +160,9 @@ module _ (d : Device) (k : DeviceSized d) where
   report-noted : (l : Learnt) (v : List ℕ) → Learns d l → Learns d (reportNoted l v)
   unfolding reportNoted
   report-noted l v h e =
-      let s = h (both (l .readable) (reportOf v .reading .readable) e .0) in
-      record { registration = s .registration; assigned = report-sized (l .assigned) (s .assigned) v }
+      let t = both (l .readable) (reportOf v .reading .readable) e in
+      let s = h (t .0) in
+      record { registration = s .registration; assigned = report-sized (l .assigned) (s .assigned) v (t .1) }
 
   -- record 55: 8 groups and no more, each of its own type
   assigned-sized : (l : Learnt) (kind id : ℕ) → Learns d l → Learns d (groupAssigned l kind id)
@@ -173,7 +182,9 @@ module _ (d : Device) (k : DeviceSized d) where
               groups = with-few g kind id (a .list) (a .groups) f;
               types = with-differ g kind id (a .list) (a .groups) f (a .types);
               session = a .session;
+              text = a .text;
               ids = a .ids;
+              each = a .each;
             };
       }))
 
@@ -256,5 +267,5 @@ acknowledged-sized s sized id p time verdict =
       device = sized .device;
       images = sized .images;
       assigned = h r .assigned;
-      registration = record { url = sized .registration .url; interval = sized .registration .interval };
+      registration = record { url = sized .registration .url; text = sized .registration .text; interval = sized .registration .interval };
     })

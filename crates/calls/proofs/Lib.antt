@@ -1,3 +1,4 @@
+pub mod TextLaws
 pub mod OwnSizes
 pub mod Pairs
 pub mod AckSizes
@@ -9,3 +10,7 @@ pub mod Reports
 pub mod Padded
 pub mod Complete
 pub mod Merges
+pub mod Copied
+pub mod OwnTexts
+pub mod Stored
+pub mod Texts

@@ -38,12 +38,12 @@ doubled-between low i high h = go (ltb (i .0 * 2) (high .0)) refl
 module _ (d : Device) (r : Registration) (k : RegistrationSized d r) where
   taken-sized : RegistrationSized d (idTaken r)
   unfolding idTaken
-  taken-sized = record { url = k .url; interval = k .interval }
+  taken-sized = record { url = k .url; text = k .text; interval = k .interval }
 
   round-taken-sized : RegistrationSized d (roundTaken d r)
   unfolding roundTaken
   round-taken-sized =
-      record { url = k .url; interval = doubled-between (d .«interval_min» .0) (r .interval) (d .«interval_max») (k .interval) }
+      record { url = k .url; text = k .text; interval = doubled-between (d .«interval_min» .0) (r .interval) (d .«interval_max») (k .interval) }
 
 module _ (s : State) (k : Sized s) (r : Registration) (z : RegistrationSized (s .device) r) where
   sending-sized : (bs : List ℕ) → Sized (sending s r bs .state)

@@ -43,6 +43,7 @@ use Rattle.state.specs.declared.State.{State}
 use Rattle.store.specs.Store.{acceptable}
 use Rattle.tables.specs.Table.{contents, alike, lastOne, valueOf, valuesOf, readBy, heldTells, fieldTells, allReadable, readableTo, readable, anyPadded, paddedTo, padded, written, writeBy}
 use Rattle.tlv.specs.Record.{ofValue, ofKind, recordAt, recordStep, recordsFrom, Tlv, records, readable as wholly, paddedAmong, recordBytes}
+use Rattle.utf8.specs.Utf8.{behind, after, utf8From, isUtf8}
 use Rattle.varint.specs.Varint.{spelt, varintAt, ofStretch, ofLength, delimitedAt, spelling, varint, two, delimited}
 use Rattle.calls.specs.Own.{Sending, unsent, reports, reportOf}
 use Rattle.calls.specs.Report.{subscriptionShown, shownAfter, FewEntries, SamePrimary, emptyReport, HeartbeatRetired}
@@ -164,7 +165,7 @@ unfolding wholly recordsFrom recordStep recordAt ofKind ofValue varintAt spelt d
 alone-whole = refl
 
 alone-read : readOf heartbeatAlone .reading .readable ≡ true
-unfolding readable readableTo allReadable fieldTells heldTells readBy valuesOf valueOf lastOne contents alike numbered held spanned contentAt ofTag fieldAt fieldStep fieldsFrom varintAt spelt delimitedAt ofLength ofStretch stretch fits walk walkFor
+unfolding behind after utf8From isUtf8 readable readableTo allReadable fieldTells heldTells readBy valuesOf valueOf lastOne contents alike numbered held spanned contentAt ofTag fieldAt fieldStep fieldsFrom varintAt spelt delimitedAt ofLength ofStretch stretch fits walk walkFor
 alone-read = report-read heartbeatAlone .reading
 
 alone-unpadded : paddedIn (recordBytes 13 heartbeatAlone) ≡ false

@@ -3,11 +3,12 @@ use Prim.Native.Nat.{ℕ, _-_, _≤_}
 use mathlib.Core.Path.{_≡_, refl, sym, _∙_}
 use mathlib.Core.List.{List, [], _∷_}
 use mathlib.Core.Bool.{Bool, true, false, not, _&&_, _||_, true≢false}
+use mathlib.Core.Logic.{inl}
 use mathlib.Core.Option.{Option, none, some}
 use native.Mathlib.Omega.{arith}
 use borrow.Author.Tests.{ltb-false, leb-true, eqb-true, eqb-false, not-true}
 use lib.Dec.{eqb, ltb, leb}
-use lib.ListN.{length, take, drop, replicate, length-take}
+use lib.ListN.{length, take, drop, replicate}
 use lib.Seq.{length-sets}
 use Rattle.buffer.proofs.Tests.{pick-both, both, neither}
 use Rattle.buffer.specs.Same.{sameBytes}
@@ -23,13 +24,14 @@ use Rattle.decode_image.specs.declared.Transfer.{Transfer}
 use Rattle.firmware.specs.Answer.{isOpen}
 use Rattle.loading.specs.Load.{withPending, isPending, openFault, sourceFault, pendingFault, loads, loadsAt, loadTaken, loadAnswered, cancels, cancelTaken, cancelAnswered, backs, backupTaken, backupAnswered, booted}
 use Rattle.opening.specs.Open.{sizedTexts, isGiven, numberOr0, isWhole, isOurs, faultOf, openedBy, replaced, opens, openIf, transferTaken, transferAnswered}
-use Rattle.firmware.specs.Place.{isHash, hashAt, nameAt, versionAt}
+use Rattle.firmware.specs.Place.{isHash, hashAt}
 use Rattle.firmware.specs.declared.Answered.{Answered}
 use Rattle.post.specs.Judge.{lookedAt, paddedIn, judgedAs}
 use Rattle.post.specs.Value.{readingAt, isReadable}
 use Rattle.post.specs.declared.Judgement.{Judgement}
 use Rattle.post.specs.declared.Judgement.the-variants.{Error as Refused, Run}
-use Rattle.protobuf.specs.Each.{Each}
+use Rattle.protobuf.specs.Each.{IfAny, Each}
+use Rattle.protobuf.specs.Given.{bytesGiven}
 use Rattle.protobuf.specs.declared.Bytes.{Bytes}
 use Rattle.protobuf.specs.declared.Bytes.the-variants.{At, Absent}
 use Rattle.registration.specs.Redirect.{restarted}
@@ -58,11 +60,13 @@ use Rattle.transfer.specs.Blocks.{blocks}
 use Rattle.transfer.proofs.Counts.{ones-none, counted-put}
 use Rattle.transfer.proofs.Marks.{length-marked, held-none}
 use Rattle.transfer.proofs.Puts.{put-cases}
+use Rattle.utf8.specs.Utf8.{IsText}
 use Rattle.calls.specs.Boot.{bootOf}
 use Rattle.class.specs.Class.{classOf}
 use Rattle.calls.specs.Datagram.{Call, Effect, worldIn, refusal, servedAs, served, replied, classed, received, datagramOf}
 use Rattle.calls.specs.Padding.{refusingPadding}
 use Rattle.calls.specs.Made.{Made, set, called, rounded, reported, booted as reborn, padding, Between, DeviceSized, OpenSized, ImagesSized, RegistrationSized, Sized, MadeSized}
+use Rattle.calls.proofs.TextLaws.{none-text, short-text, name-held, version-held, Named, name-text, version-text}
 use Rattle.calls.proofs.OwnSizes.{round-sized, report-sized}
 use Rattle.calls.proofs.AckSizes.{redirect-sized, acknowledged-sized}
 use Rattle.class.specs.declared.Class.{Class}
@@ -103,11 +107,22 @@ module _ (hw vendor running url : List ℕ) (s : Settings) where
               running = length-sets (replicate 32 0) 0 running;
               opened = λ q. absurd (true≢false (sym q));
               number = sym ones-none;
+              name = none-text (replicate 128 0);
+              version = none-text (replicate 32 0);
               pending = refl;
               backup = refl;
             };
-        assigned = record { list = refl; groups = omega arith; types = λ i j h k. absurd (omega arith); session = omega arith; ids = omega arith };
-        registration = record { url = within-told 1 (length url) 128 (c .1); interval = (omega arith, up) };
+        assigned =
+            record {
+              list = refl;
+              groups = omega arith;
+              types = λ i j h k. absurd (omega arith);
+              session = omega arith;
+              text = none-text (replicate 64 0);
+              ids = omega arith;
+              each = tt;
+            };
+        registration = record { url = within-told 1 (length url) 128 (c .1); text = inl refl; interval = (omega arith, up) };
       }
 
   setup-sized : setupOf hw vendor running url s .outcome ≡ 0 → Sized (setupOf hw vendor running url s .state)
@@ -122,16 +137,6 @@ hash-long : (v : List ℕ) (b : Bytes) → length (hashAt v b) ≡ 32
 unfolding hashAt
 hash-long v (At start stop) = length-sets (replicate 32 0) 0 (take (stop - start) (drop start v))
 hash-long v Absent = refl
-
-name-short : (v : List ℕ) (b : Bytes) → atMost 128 b ≡ true → nameAt v b .len ≤ 128
-unfolding nameAt atMost
-name-short v (At start stop) h = omega (arith, length-take (stop - start) (drop start v), leb-true (stop - start) 128 h)
-name-short v Absent h = omega arith
-
-version-short : (v : List ℕ) (b : Bytes) → atMost 32 b ≡ true → versionAt v b .len ≤ 32
-unfolding versionAt atMost
-version-short v (At start stop) h = omega (arith, length-take (stop - start) (drop start v), leb-true (stop - start) 32 h)
-version-short v Absent h = omega arith
 
 -- record 65: an image begins with no block held
 opened-counts : (v : List ℕ) (t : Transfer) (size each : ℕ) → CountsOnes (openedBy v t size each)
@@ -163,9 +168,10 @@ module _ (d : Device) (i : Images) (v : List ℕ) (t : Transfer) (size each : �
       (λ p. pick-both Faultless (ltb (d .«image_len») size || ltb 1024 (blocks size each)) _ _ (λ l e. absurd (omega arith))
       (λ l e. fits-by d size each h l))) (λ o e. absurd (omega arith)))
 
-  opened-sized : isWhole t ≡ true → size ≡ numberOr0 (t .size) → faultOf d i v t size each ≡ 0 → OpenSized d (openedBy v t size each)
+  opened-sized : IfAny IsText (bytesGiven v (t .name)) → IfAny IsText (bytesGiven v (t .version)) → isWhole t ≡ true → size ≡ numberOr0 (t .size)
+      → faultOf d i v t size each ≡ 0 → OpenSized d (openedBy v t size each) × Named (openedBy v t size each)
   unfolding isWhole sizedTexts openedBy
-  opened-sized w q e =
+  opened-sized name version w q e =
       let f = faultless e in
       let a = both (isHash (t .hash)) (isGiven (t .«block_size») && (not (eqb (numberOr0 (t .size)) 0) && sizedTexts t)) w in
       let b = both (isGiven (t .«block_size»)) (not (eqb (numberOr0 (t .size)) 0) && sizedTexts t) (a .1) in
@@ -174,41 +180,64 @@ module _ (d : Device) (i : Images) (v : List ℕ) (t : Transfer) (size each : �
       let x = both (atMost 32 (t .«hw_id»)) (atMost 32 (t .«vendor_hw_id») && (atMost 128 (t .name) && atMost 32 (t .version))) (c .1) in
       let y = both (atMost 32 (t .«vendor_hw_id»)) (atMost 128 (t .name) && atMost 32 (t .version)) (x .1) in
       let z = both (atMost 128 (t .name)) (atMost 32 (t .version)) (y .1) in
-      record {
-        hash = hash-long v (t .hash);
-        name = name-short v (t .name) (z .0);
-        version = version-short v (t .version) (z .1);
-        size = (omega arith, f .1 .0);
-        each = f .0;
-        count = f .1 .1;
-        bitmap = refl;
-        spare = λ m k. held-none m;
-      }
+      let p = name-held v (t .name) (short-text 128 v (t .name) (z .0) name) in
+      let r = version-held v (t .version) (short-text 32 v (t .version) (z .1) version) in (
+        record {
+          hash = hash-long v (t .hash);
+          name = p .0;
+          version = r .0;
+          size = (omega arith, f .1 .0);
+          each = f .0;
+          count = f .1 .1;
+          bitmap = refl;
+          spare = λ m k. held-none m;
+        },
+        (p .1, r .1),
+      )
 
 module _ (d : Device) (i : Images) (s : ImagesSized d i) where
   abbrev Answers : Answered → Type 0
   Answers a = ImagesSized d (a .images)
 
-  opens-sized : (m : Image) → OpenSized d m → CountsOnes m → Answers (opens i m)
+  opens-sized : (m : Image) → OpenSized d m × Named m → CountsOnes m → Answers (opens i m)
   unfolding opens replaced
   opens-sized m o n =
       pick-both Answers (isOpen i (m .hash)) _ _ (λ h. s)
-      (λ h. record { running = s .running; opened = λ e. o; number = n; pending = s .pending; backup = s .backup })
+      (λ h. record {
+        running = s .running;
+        opened = λ e. o .0;
+        number = n;
+        name = o .1 .0;
+        version = o .1 .1;
+        pending = s .pending;
+        backup = s .backup;
+      })
 
-  transfer-sized : (v : List ℕ) → Answers (transferAnswered d i v)
+  transfer-sized : (v : List ℕ) → transferOf v .reading .readable ≡ true → Answers (transferAnswered d i v)
   unfolding transferAnswered transferTaken openIf
-  transfer-sized v =
+  transfer-sized v h =
       let t = transferOf v in
       let size = numberOr0 (t .size) in
       let each = numberOr0 (t .«block_size») in
       pick-both Answers (isWhole t) _ _
       (λ w. pick-both Answers (eqb (faultOf d i v t size each) 0) _ _
-      (λ e. opens-sized (openedBy v t size each) (opened-sized d i v t size each w refl (eqb-true (faultOf d i v t size each) 0 e)) (opened-counts v t size each)) (λ e. s)) (λ w. s)
+      (λ e. opens-sized (openedBy v t size each)
+      (opened-sized d i v t size each (name-text v h) (version-text v h) w refl (eqb-true (faultOf d i v t size each) 0 e))
+      (opened-counts v t size each)) (λ e. s)) (λ w. s)
 
   -- records 68 to 70
   pending-sized : (hash : List ℕ) (is : Bool) (time : Point) → length hash ≡ 32
       → ImagesSized d (withPending i (record { is = is; hash = hash; time = time }))
-  pending-sized hash is time l = record { running = s .running; opened = s .opened; number = s .number; pending = l; backup = s .backup }
+  pending-sized hash is time l =
+      record {
+        running = s .running;
+        opened = s .opened;
+        number = s .number;
+        name = s .name;
+        version = s .version;
+        pending = l;
+        backup = s .backup;
+      }
 
   loads-sized : (hash : List ℕ) (time : Point) → length hash ≡ 32 → Answers (loads i hash time)
   unfolding loads
@@ -242,16 +271,24 @@ module _ (d : Device) (i : Images) (s : ImagesSized d i) where
       pick-both Answers (isHash (hashOf v .hash)) _ _
       (λ h. pick-both Answers (eqb (openFault i hash) 0) _ _
       (λ o. pick-both Answers (i .pending .is) _ _ (λ p. s)
-      (λ p. record { running = s .running; opened = s .opened; number = s .number; pending = s .pending; backup = hash-long v (hashOf v .hash) })) (λ o. s)) (λ h. s)
+      (λ p. record {
+        running = s .running;
+        opened = s .opened;
+        number = s .number;
+        name = s .name;
+        version = s .version;
+        pending = s .pending;
+        backup = hash-long v (hashOf v .hash);
+      })) (λ o. s)) (λ h. s)
 
 -- record 67
-module _ (d : Device) (i : Image) (bs : List ℕ) (s : OpenSized d i) (c : Counted i) where
+module _ (d : Device) (i : Image) (bs : List ℕ) (s : OpenSized d i) (c : Counted i) (t : Named i) where
   abbrev BlocksSized : Image → Type 0
-  BlocksSized j = OpenSized d j × CountsOnes j
+  BlocksSized j = OpenSized d j × CountsOnes j × Named j
 
   put-sized : (n : ℕ) (dat : List ℕ) → BlocksSized (putBlock i bs n dat .image)
   put-sized n dat =
-      put-cases i bs n dat (λ (f : Flash). BlocksSized (f .image)) (s, c .number)
+      put-cases i bs n dat (λ (f : Flash). BlocksSized (f .image)) (s, c .number, t)
       (λ h g. let p = counted-put i n (length dat) c (s .count) (s .bitmap) h g in (
         record {
           hash = s .hash;
@@ -264,10 +301,11 @@ module _ (d : Device) (i : Image) (bs : List ℕ) (s : OpenSized d i) (c : Count
           spare = p .spare;
         },
         p .number,
+        t,
       ))
 
   offer-sized : (o : Option Offer) → BlocksSized (putOffer i bs o .image)
-  offer-sized none = (s, c .number)
+  offer-sized none = (s, c .number, t)
   offer-sized (some o) = put-sized (o .number) (o .bytes)
 
   take-sized : (v : List ℕ) → BlocksSized (takeBlock i bs v .image)
@@ -282,9 +320,14 @@ pub record WorldSized (d : Device) (w : World) : Type 0 where
   pub images : ImagesSized d (w .images)
   pub registration : RegistrationSized d (w .registration)
 
+-- the records run can be read
 readable-redirect : (k : ℕ) (v : List ℕ) → eqb k 6 ≡ true → readingAt k v .readable ≡ true → redirectOf v .reading .readable ≡ true
 unfolding readingAt
 readable-redirect k v e h = rw e at h
+
+readable-transfer : (k : ℕ) (v : List ℕ) → eqb k 65 ≡ true → readingAt k v .readable ≡ true → transferOf v .reading .readable ≡ true
+unfolding readingAt
+readable-transfer k v e h = rw (eqb-true k 65 e) at h
 
 abbrev Readable : Tlv → Type 0
 Readable t = isReadable (t .kind) (t .value) ≡ true
@@ -295,13 +338,15 @@ module _ (d : Device) (sized : DeviceSized d) where
   block-sized w v s =
       let i = s .images in
       pick-both (WorldSized d) (w .images .«open») _ _
-      (λ o. let t = take-sized d (w .images .image) (w .flash) (i .opened o) (open-counted d (w .images) i o) v in
+      (λ o. let t = take-sized d (w .images .image) (w .flash) (i .opened o) (open-counted d (w .images) i o) (i .name, i .version) v in
       record {
         images =
             record {
               running = i .running;
               opened = λ e. t .0;
               number = t .1;
+              name = t .2 .0;
+              version = t .2 .1;
               pending = i .pending;
               backup = i .backup;
             };
@@ -314,7 +359,7 @@ module _ (d : Device) (sized : DeviceSized d) where
   act-sized w k v h s =
       pick-both (WorldSized d) (eqb k 6) _ _
       (λ e. record { images = s .images; registration = redirect-sized d (w .registration) sized (s .registration) v (readable-redirect k v e h) })
-      (λ _. pick-both (WorldSized d) (eqb k 65) _ _ (λ _. changed (transfer-sized d (w .images) (s .images) v))
+      (λ _. pick-both (WorldSized d) (eqb k 65) _ _ (λ e. changed (transfer-sized d (w .images) (s .images) v (readable-transfer k v e h)))
       (λ _. pick-both (WorldSized d) (eqb k 67) _ _ (λ _. block-sized w v s)
       (λ _. pick-both (WorldSized d) (eqb k 68) _ _ (λ _. changed (load-sized d (w .images) (s .images) v))
       (λ _. pick-both (WorldSized d) (eqb k 69) _ _ (λ _. changed (cancel-sized d (w .images) (s .images) v))
@@ -378,7 +423,15 @@ boot-images-sized : (d : Device) (i : Images) → ImagesSized d i → ImagesSize
 unfolding booted
 boot-images-sized d i k =
     pick-both (ImagesSized d) (i .pending .is) _ _
-    (λ h. record { running = k .pending; opened = k .opened; number = k .number; pending = refl; backup = k .backup })
+    (λ h. record {
+      running = k .pending;
+      opened = k .opened;
+      number = k .number;
+      name = k .name;
+      version = k .version;
+      pending = refl;
+      backup = k .backup;
+    })
     (λ h. k)
 
 boot-sized : (s : State) → Sized s → Sized (bootOf s)
@@ -388,7 +441,7 @@ boot-sized s k =
       device = k .device;
       images = boot-images-sized (s .device) (s .images) (k .images);
       assigned = k .assigned;
-      registration = record { url = k .device .home; interval = (omega arith, k .device .low .1) };
+      registration = record { url = k .device .home; text = inl refl; interval = (omega arith, k .device .low .1) };
     }
 
 -- what is promised of sizes does not go by padding
@@ -406,11 +459,13 @@ refusing-sized s on k =
                 λ o. let x = i .opened o in
                 record { hash = x .hash; name = x .name; version = x .version; size = x .size; each = x .each; count = x .count; bitmap = x .bitmap; spare = x .spare };
             number = i .number;
+            name = i .name;
+            version = i .version;
             pending = i .pending;
             backup = i .backup;
           };
       assigned = k .assigned;
-      registration = record { url = k .registration .url; interval = k .registration .interval };
+      registration = record { url = k .registration .url; text = k .registration .text; interval = k .registration .interval };
     }
 
 made : {s : State} → Made s → Sized s

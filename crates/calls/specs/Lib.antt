@@ -8,3 +8,4 @@ pub mod Report
 pub mod Padded
 pub mod Complete
 pub mod Merge
+pub mod Text

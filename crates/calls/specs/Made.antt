@@ -1,11 +1,15 @@
--- The states that setup and calls make, and what document 01, "Sizes", and document 02, Q-2 and Q-3, promise of them; padding refused or not, Q-8.
+-- The states that setup and calls make, and what document 01, "Sizes", and document 02, Q-2, Q-3 and Q-5, promise of them; padding refused or not, Q-8.
 use Prim.Native.Nat.{ℕ, _≤_}
 use mathlib.Core.Path.{_≡_}
 use mathlib.Core.List.{List}
 use mathlib.Core.Bool.{Bool, true, false}
-use lib.ListN.{length}
+use mathlib.Core.Logic.{_⊎_}
+use lib.ListN.{length, take}
 use Rattle.csmp.specs.declared.Image.{Image}
+use Rattle.decimal.specs.Decimal.{IsId}
+use Rattle.decimal.specs.Ids.{held as listed}
 use Rattle.outgoing.specs.declared.Report.{Report}
+use Rattle.protobuf.specs.Each.{Each}
 use Rattle.schedule.specs.declared.Point.{Point}
 use Rattle.state.specs.Groups.{TypesDiffer}
 use Rattle.state.specs.Setup.{setupOf}
@@ -17,6 +21,7 @@ use Rattle.state.specs.declared.State.{State}
 use Rattle.state.specs.declared.setup.Settings.{Settings}
 use Rattle.transfer.specs.Bitmap.{held, CountsOnes}
 use Rattle.transfer.specs.Blocks.{blocks}
+use Rattle.utf8.specs.Utf8.{IsText}
 use Rattle.calls.specs.Boot.{bootOf}
 use Rattle.calls.specs.Datagram.{Call, datagramOf}
 use Rattle.calls.specs.Own.{roundOf, reportOf}
@@ -55,25 +60,30 @@ pub record OpenSized (d : Device) (i : Image) : Type 0 where
   pub bitmap : length (i .bitmap) ≡ 128
   pub spare : (n : ℕ) → blocks (i .size) (i .«block_size») ≤ n → held (i .bitmap) n ≡ false
 
--- hashes 32; the number of blocks held is that of the ones
+-- hashes 32; the number of blocks held is that of the ones; file name and version are text
 pub record ImagesSized (d : Device) (i : Images) : Type 0 where
   pub running : length (i .running) ≡ 32
   pub opened : i .«open» ≡ true → OpenSized d (i .image)
   pub number : CountsOnes (i .image)
+  pub name : IsText (take (i .image .name .len) (i .image .name .bytes))
+  pub version : IsText (take (i .image .version .len) (i .image .version .bytes))
   pub pending : length (i .pending .hash) ≡ 32
   pub backup : length (i .backup .bytes) ≡ 32
 
--- at most 8 groups in an array of 8, no two of one type; session id 64, the report's list 32
+-- at most 8 groups in an array of 8, no two of one type; session id 64, and it is text; the report's list 32, each an id
 pub record AssignedSized (a : Assigned) : Type 0 where
   pub list : length (a .groups .list) ≡ 8
   pub groups : a .groups .count ≤ 8
   pub types : TypesDiffer (a .groups)
   pub session : a .session .len ≤ 64
+  pub text : IsText (take (a .session .len) (a .session .bytes))
   pub ids : a .ids .count ≤ 32
+  pub each : Each IsId (listed (a .ids))
 
--- URL 128; the interval between the smallest and the largest
+-- URL 128, the setup's or text; the interval between the smallest and the largest
 pub record RegistrationSized (d : Device) (r : Registration) : Type 0 where
   pub url : Between 1 (r .url .len) 128
+  pub text : (r .url ≡ d .home) ⊎ IsText (take (r .url .len) (r .url .bytes))
   pub interval : Between (d .«interval_min» .0) (r .interval .0) (d .«interval_max» .0)
 
 pub record Sized (s : State) : Type 0 where

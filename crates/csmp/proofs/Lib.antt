@@ -1,3 +1,4 @@
 pub mod ValueLaws
 pub mod Formed
 pub mod NamedLaws
+pub mod Strings

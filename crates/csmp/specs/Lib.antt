@@ -1,3 +1,4 @@
 pub mod Tables
 pub mod Values
 pub mod Named
+pub mod Strings

@@ -1,4 +1,4 @@
--- What the values of messages share: numbers that are times, sizes, and texts.
+-- What the values of messages share: numbers that are times, sizes, and bytes that are compared.
 use Prim.Native.Nat.{ℕ, _-_}
 use mathlib.Core.List.{List}
 use mathlib.Core.Bool.{Bool, true}
@@ -37,7 +37,7 @@ unfoldable pub atMost : ℕ → Bytes → Bool
 atMost n (At start stop) = leb (stop - start) n
 atMost n NoBytes = true
 
--- whether the bytes of a field are a text, with an answer for an absent field
-unfoldable pub isText : List ℕ → List ℕ → Bool → Bytes → Bool
-isText text s absent (At start stop) = sameBytes text (take (stop - start) (drop start s))
-isText text s absent NoBytes = absent
+-- whether a field holds these bytes, with an answer for an absent field
+unfoldable pub fieldIs : List ℕ → List ℕ → Bool → Bytes → Bool
+fieldIs bytes s absent (At start stop) = sameBytes bytes (take (stop - start) (drop start s))
+fieldIs bytes s absent NoBytes = absent

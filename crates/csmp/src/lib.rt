@@ -21,9 +21,9 @@ pub use rows::signature;
 pub use rows::signature_validity;
 pub use rows::transfer_request;
 pub use values::at_most;
+pub use values::field_is;
 pub use values::interval;
 pub use values::interval_number;
-pub use values::is_text;
 pub use values::moment;
 pub use values::moment_number;
 

@@ -6,7 +6,7 @@ use schedule::Length;
 use schedule::Moment;
 use schedule::Point;
 ghost use mathlib.Core.Path.{_≡_};
-ghost use Rattle.csmp.specs.Values.{momentOf, intervalOf, momentNumber, intervalNumber, atMost, isText};
+ghost use Rattle.csmp.specs.Values.{momentOf, intervalOf, momentNumber, intervalNumber, atMost, fieldIs};
 
 // A number that is a point, and one that is a length.
 pub fn moment(n: Number) -> Moment
@@ -59,12 +59,12 @@ pub fn at_most(b: Bytes, most: usize) -> bool
     end - start <= most
 }
 
-// Whether the bytes of a field are a text; `absent` is the answer where there is no such field.
-pub fn is_text(text: &[u8], s: &[u8], place: Bytes, absent: bool) -> bool
-    ensures { λ r. ⌜ r ≡ isText (now (text .entry)) (now (s .entry)) absent place ⌝ }
+// Whether a field holds these bytes; `absent` is the answer where there is no such field.
+pub fn field_is(bytes: &[u8], s: &[u8], place: Bytes, absent: bool) -> bool
+    ensures { λ r. ⌜ r ≡ fieldIs (now (bytes .entry)) (now (s .entry)) absent place ⌝ }
 {
     let Bytes::At(start, end) = place else {
         return absent;
     };
-    buffer::same(text, buffer::part(s, start, end))
+    buffer::same(bytes, buffer::part(s, start, end))
 }

@@ -14,7 +14,7 @@ use Rattle.decimal.specs.declared.Id.the-variants.{Given, Nothing}
 use Rattle.decimal.proofs.Laws.{bound, behind-end, digits-end, digits-more}
 
 -- the digits written before others are digits, and spell the number behind whatever stands before them
-all-written : (k v : ℕ) (known : List ℕ) → v < bound k → allDigits (digitsBefore k v known) ≡ allDigits known
+pub all-written : (k v : ℕ) (known : List ℕ) → v < bound k → allDigits (digitsBefore k v known) ≡ allDigits known
 unfolding digitsBefore allDigits
 all-written zero v known h = rw (le-ltb (48 + v) 48 (omega arith), le-ltb 57 (48 + v) (omega arith))
 all-written (suc k) v known h = go (ltb v 10) refl (all-written k (v / 10) ((48 + v % 10) ∷ known) (omega arith))

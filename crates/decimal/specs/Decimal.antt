@@ -1,11 +1,15 @@
 -- Decimal ids, document 01, step b: an id is 0 or a decimal without leading zero, below 2^32.
-use Prim.Native.Nat.{ℕ, zero, suc, _+_, _*_, _-_, _/_, _%_, _^_}
+use Prim.Native.Nat.{ℕ, zero, suc, _+_, _*_, _-_, _/_, _%_, _^_, _<_}
 use mathlib.Core.List.{List, [], _∷_}
 use mathlib.Core.Bool.{Bool, true, false}
 use lib.Dec.{eqb, ltb}
 use Rattle.buffer.specs.Pick.{pick}
 use Rattle.decimal.specs.declared.Id.{Id}
 use Rattle.decimal.specs.declared.Id.the-variants.{Given, Nothing}
+
+-- a number that is an id
+abbrev pub IsId : ℕ → Type 0
+IsId id = id < 2 ^ 32
 
 -- the digits 0 to 9 are the bytes 48 to 57
 unfoldable pub allDigits : List ℕ → Bool

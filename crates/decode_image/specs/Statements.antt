@@ -112,7 +112,7 @@ pub record Padding : Type 0 where
   pub means : Bool
 
 -- by imageHash: fileHash; its tag padded; its length; the number of field 15, which is skipped; its tag; its length; its bytes don't count. By
--- transferRequest: a tag within hwInfo; the number of a field 1 that is no message, skipped; the bytes of fileName don't count
+-- transferRequest: a tag within hwInfo; the number of a field 1 that is no message, skipped; the bytes of fileName don't count; its length, where it is no text
 unfoldable pub paddings : List Padding
 paddings =
     record { table = imageHash; bytes = 0x0A ∷ 0x00 ∷ []; means = false }
@@ -125,6 +125,7 @@ paddings =
     ∷ record { table = transferRequest; bytes = 0x0A ∷ 0x03 ∷ 0x8A ∷ 0x00 ∷ 0x00 ∷ []; means = true }
     ∷ record { table = transferRequest; bytes = 0x08 ∷ 0x81 ∷ 0x00 ∷ []; means = true }
     ∷ record { table = transferRequest; bytes = 0x1A ∷ 0x02 ∷ 0x8A ∷ 0x00 ∷ []; means = false }
+    ∷ record { table = transferRequest; bytes = 0x1A ∷ 0x81 ∷ 0x00 ∷ 0xFF ∷ []; means = true }
     ∷ []
 
 abbrev pub Paddings : Type 0

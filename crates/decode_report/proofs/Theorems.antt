@@ -26,6 +26,7 @@ use Rattle.tables.specs.Found.{Cell, noneHeld, noneFound, placed, cellWith, eac
 use Rattle.tables.specs.Statements.{counted}
 use Rattle.tables.specs.Table.{contents, alike, valueOf, valuesOf, heldTells, fieldTells, allReadable, readableTo, readable, readBy}
 use Rattle.tables.proofs.TableTells.{tells}
+use Rattle.utf8.specs.Utf8.{behind, after, utf8From, isUtf8}
 use Rattle.csmp.specs.Tables.{reportSubscribe}
 use Rattle.csmp.specs.Values.{intervalOf, intervalNumber}
 use Rattle.csmp.proofs.NamedLaws.{interval-back}
@@ -76,5 +77,5 @@ report-read v =
     }
 
 pub samples-read : Samples
-unfolding samples each few heldTells fieldTells allReadable readableTo readable reportOf withId withEntry withEntries intervalOf intervalNumber contents alike valueOf valuesOf readBy allDigits digits digitsOf zeroOr idOf pushed noneHeld noneFound placed cellWith eachIn heldWith foundWith foundIn wireOf countMore numberOf flagOf placeOf numbered bytesHeld spanned contentAt ofTag fieldAt fieldStep fieldsFrom more spelt varintAt ofStretch ofLength delimitedAt fits stretch walkFor walk
+unfolding samples each few behind after utf8From isUtf8 heldTells fieldTells allReadable readableTo readable reportOf withId withEntry withEntries intervalOf intervalNumber contents alike valueOf valuesOf readBy allDigits digits digitsOf zeroOr idOf pushed noneHeld noneFound placed cellWith eachIn heldWith foundWith foundIn wireOf countMore numberOf flagOf placeOf numbered bytesHeld spanned contentAt ofTag fieldAt fieldStep fieldsFrom more spelt varintAt ofStretch ofLength delimitedAt fits stretch walkFor walk
 samples-read = refl

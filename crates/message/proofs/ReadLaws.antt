@@ -9,15 +9,25 @@ use native.Mathlib.Omega.{arith}
 use borrow.Rule.Slice.PartMut.{putMid, post-is}
 use lib.ListN.{length, take, drop, length-set, length-take, length-drop}
 use Rattle.buffer.specs.Walk.{Walked}
-use Rattle.protobuf.specs.Field.{fields, bytesOf, fieldsFrom}
-use Rattle.message.specs.Read.{wireOf, rowIn, noted, unpadded, joined, sealed, Scan, scanned, heldRead, knownRead, fieldRead, allRead, messageRead, readInto, Scanned}
+use Rattle.protobuf.specs.Field.{bytesOf, fieldsFrom}
+use Rattle.message.specs.Read.{wireOf, rowIn, noted, unpadded, joined, sealed, Scan, scanned, plainRead, heldRead, knownRead, fieldRead, allRead, messageRead, readInto, Scanned}
 use Rattle.protobuf.specs.declared.Field.{Field}
+use Rattle.utf8.specs.Utf8.{isUtf8}
 use Rattle.message.specs.declared.Known.the-variants.{Row as Knows, Nothing}
 use Rattle.message.specs.declared.Reading.{Reading}
 
 -- what a call leaves, by an equation
 pub leaves : {x : Scan} {r : Reading} {left : List ℕ} (t : Reading) (cells : List ℕ) → x ≡ scanned t cells → r ≡ t → left ≡ cells → Scanned x r left
 leaves t cells e p q = record { reading = p ∙ ap (λ (y : Scan). y .reading) (sym e); cells = q ∙ ap (λ (y : Scan). y .cells) (sym e) }
+
+-- a field that holds no message
+pub plain-other : (kind : ℕ) (bs : List ℕ) → kind < 9 → plainRead kind bs ≡ unpadded true
+unfolding plainRead
+plain-other kind bs h = rw (lt-ltb kind 9 h)
+
+pub plain-text : (kind : ℕ) (bs : List ℕ) → 9 ≤ kind → plainRead kind bs ≡ unpadded (isUtf8 bs)
+unfolding plainRead
+plain-text kind bs h = rw (le-ltb kind 9 h)
 
 -- a field, by what the table says of its number
 module _ (read : List ℕ → List ℕ → ℕ → List ℕ → Scan) (table cells : List ℕ) (base : ℕ) (s : List ℕ) (f : Field) where
@@ -31,7 +41,7 @@ module _ (read : List ℕ → List ℕ → ℕ → List ℕ → Scan) (table cel
     field-other h = rw (k, ne-eqb (wireOf kind) (f .wire) h)
 
     module _ (h : wireOf kind ≡ f .wire) where
-      pub field-noted : kind < 11 → fieldRead read table cells base s f ≡ scanned (unpadded true) (noted cells i base f)
+      pub field-noted : kind < 11 → fieldRead read table cells base s f ≡ scanned (plainRead kind (bytesOf s f)) (noted cells i base f)
       unfolding fieldRead knownRead
       field-noted l = rw (k, eq-eqb (wireOf kind) (f .wire) h, lt-ltb kind 11 l)
 

@@ -1,5 +1,6 @@
 -- Reading a message by its table in one walk, document 01, "Records and fields": unknown fields, and known ones with another wire type, are
--- skipped; the last one wins; the parts of a nested message merge; nesting stops at 4. Document 02, Q-8: a varint that is read is padded or not.
+-- skipped; the last one wins; the parts of a nested message merge; nesting stops at 4. Document 02, Q-8: a varint that is read is padded or not;
+-- Q-5: a string is well-formed UTF-8.
 use Prim.Native.Nat.{ℕ, zero, suc, _+_, _-_, _%_, _^_}
 use mathlib.Core.Path.{_≡_}
 use mathlib.Core.List.{List, [], _∷_, _++_}
@@ -19,12 +20,14 @@ use Rattle.protobuf.specs.declared.Flag.{Flag}
 use Rattle.protobuf.specs.declared.Flag.the-variants.{Given as Told, Absent as NoFlag}
 use Rattle.protobuf.specs.declared.Number.{Number}
 use Rattle.protobuf.specs.declared.Number.the-variants.{Given, Absent as NoNumber}
+use Rattle.utf8.specs.Utf8.{isUtf8}
 use Rattle.message.specs.declared.Reading.{Reading}
 use Rattle.message.specs.declared.Known.{Known}
 use Rattle.message.specs.declared.Known.the-variants.{Row as Knows, Nothing}
 
 -- A table is a list of numbers. A row is a field's number, its kind, and how many numbers the table of the message that it holds takes; that
--- table stands behind it. Of a kind below 8 the wire type is 0, a varint, of another 2, length-delimited; one from 11 on holds a message.
+-- table stands behind it. Of a kind below 8 the wire type is 0, a varint, of another 2, length-delimited; 9 and 10 hold text, one from 11 on a
+-- message.
 pub record Row : Type 0 where
   pub number : ℕ
   pub kind : ℕ
@@ -85,6 +88,10 @@ scanned reading cells = record { reading = reading; cells = cells }
 abbrev pub spliced : List ℕ → ℕ → ℕ → Scan → Scan
 spliced cells a e x = scanned (x .reading) (take a cells ++ (x .cells ++ drop e cells))
 
+-- what a field tells that holds no message: a string must be text, also where a later one overrides it
+unfoldable pub plainRead : ℕ → List ℕ → Reading
+plainRead kind bs = unpadded (pick (ltb kind 9) true (isUtf8 bs))
+
 -- a message that begins at `base` of the whole value: by a table, over what was found before
 module _ (read : List ℕ → List ℕ → ℕ → List ℕ → Scan) where
   -- the message that a field holds, by the rows of its own table
@@ -95,14 +102,16 @@ module _ (read : List ℕ → List ℕ → ℕ → List ℕ → Scan) where
   unfoldable pub knownRead : List ℕ → List ℕ → ℕ → List ℕ → Field → Known → Scan
   knownRead table cells base s f (Knows kind i e) =
       pick (eqb (wireOf kind) (f .wire))
-      (pick (ltb kind 11) (scanned (unpadded true) (noted cells i base f)) (heldRead table (noted cells i base f) (i + 3) e (base + f .start) (bytesOf s f)))
+      (pick (ltb kind 11) (scanned (plainRead kind (bytesOf s f)) (noted cells i base f))
+      (heldRead table (noted cells i base f) (i + 3) e (base + f .start) (bytesOf s f)))
       (scanned (unpadded true) cells)
   knownRead table cells base s f Nothing = scanned (unpadded true) cells
 
   unfoldable pub fieldRead : List ℕ → List ℕ → ℕ → List ℕ → Field → Scan
   fieldRead table cells base s f = knownRead table cells base s f (rowIn table (f .number))
 
-  -- the fields one by one, skipped ones too; a held message that can't be read makes the value unreadable, and the fields behind it are still noted
+  -- the fields one by one, skipped ones too; a string or a held message that can't be read makes the value unreadable, and the fields behind it are
+  -- still noted
   unfoldable pub allRead : List ℕ → ℕ → List ℕ → Reading → List ℕ → Bool → List Field → Scan
   allRead table base s told cells whole [] = scanned (sealed whole told) cells
   allRead table base s told cells whole (f ∷ fs) =

@@ -12,9 +12,10 @@ ghost use mathlib.Core.Path.{_≡_};
 ghost use Prim.Native.Nat.{_+_, _^_, _≤_, _<_};
 ghost use lib.ListN.{length};
 ghost use mathlib.Core.Bool.{true, false};
-ghost use Rattle.message.specs.Read.{wireOf, rowIn, countMore, firstOf, noted, unpadded, joined, sealed, fieldRead, messageRead, readInto, Scanned, limited, numberOf, flagOf, placeOf};
+ghost use Rattle.protobuf.specs.Field.{bytesOf};
+ghost use Rattle.message.specs.Read.{wireOf, rowIn, countMore, firstOf, noted, unpadded, joined, sealed, plainRead, fieldRead, messageRead, readInto, Scanned, limited, numberOf, flagOf, placeOf};
 
-// The kinds of fields. Those below 8 are varints, the others bytes; those from 11 on hold messages.
+// The kinds of fields. Those below 8 are varints, the others bytes; 9 and 10 are text, those from 11 on hold messages.
 pub const UINT32: u32 = 0;
 
 pub const BOOL: u32 = 1;
@@ -147,7 +148,8 @@ pub fn read(v: &[u8], table: &[u32], cells: &mut [usize]) -> Reading
     read_message(v, 0, table, cells, 4)
 }
 
-// A message that begins at `base` of the whole value. A held message that can't be read does not end the walk: the fields behind it are noted, too.
+// A message that begins at `base` of the whole value. A string or a held message that can't be read does not end the walk: the
+// fields behind it are noted, too.
 fn read_message(v: &[u8], base: usize, table: &[u32], cells: &mut [usize], depth: u32) -> Reading
     requires { ⌜ (length (now cells) ≡ length (now table)) × (base + length (now v) < 2 ^ 64) ⌝ }
     ensures { λ r. ⌜ Scanned (messageRead depth (now (table .entry)) (now (cells .entry)) base (now (v .entry))) r (now (cells .exit)) ⌝ }
@@ -166,6 +168,19 @@ fn read_message(v: &[u8], base: usize, table: &[u32], cells: &mut [usize], depth
         at = f.end;
     }
     reading
+}
+
+// A field that holds no message. A string must be text.
+fn read_plain(v: &[u8], kind: u32, f: Field) -> Reading
+    requires { ⌜ (f .start ≤ f .end) × (f .end ≤ length (now v)) ⌝ }
+    ensures { λ r. ⌜ r ≡ plainRead kind (bytesOf (now (v .entry)) f) ⌝ }
+{
+    if kind < STRING {
+        return told(true);
+    }
+    let a = f.start;
+    let b = f.end;
+    told(utf8::is_utf8(&v[a..b]))
 }
 
 // A field of a message: one that holds a message is read as one, with a level less.
@@ -188,7 +203,7 @@ fn read_field(
     }
     note(cells, i, base, f);
     if kind < PART {
-        return told(true);
+        return read_plain(v, kind, f);
     }
     let from = i + 3;
     let a = f.start;

@@ -1,4 +1,5 @@
--- What one record of an acknowledgement says, document 01, "Registration and reports", as document 02, Q-3, amends it; padding, Q-8.
+-- What one record of an acknowledgement says, document 01, "Registration and reports", as document 02, Q-3, amends it; padding, Q-8;
+-- text, Q-5: a value with a string that is no text can't be read.
 use Prim.Native.Nat.{ℕ, _+_}
 use mathlib.Core.List.{List}
 use mathlib.Core.Bool.{Bool, true, false, _&&_, _||_}

@@ -7,7 +7,7 @@ use borrow.Author.Tests.{eq-eqb, ne-eqb}
 use lib.ListN.{take}
 use Rattle.csmp.specs.declared.Image.{Image}
 use Rattle.decode_image.specs.declared.Transfer.{Transfer}
-use Rattle.csmp.specs.Values.{isText}
+use Rattle.csmp.specs.Values.{fieldIs}
 use Rattle.protobuf.specs.declared.Number.the-variants.{Given, Absent as NoNumber}
 use Rattle.state.specs.declared.Device.{Device}
 use Rattle.state.specs.declared.Images.{Images}
@@ -36,12 +36,12 @@ module _ (t : Transfer) (h : isHash (t .hash) ≡ true) where
 
 -- the hardware: both texts
 module _ (d : Device) (v : List ℕ) (t : Transfer) {x : List ℕ} (e : x ≡ take (d .«hw_id» .len) (d .«hw_id» .bytes)) where
-  pub others : isText x v false (t .«hw_id») ≡ false → isOurs d v t ≡ false
+  pub others : fieldIs x v false (t .«hw_id») ≡ false → isOurs d v t ≡ false
   unfolding isOurs
   others h = rw (← e, h)
 
-  pub ours-by : {y : List ℕ} → isText x v false (t .«hw_id») ≡ true → y ≡ take (d .«vendor_hw_id» .len) (d .«vendor_hw_id» .bytes)
-      → isOurs d v t ≡ isText y v true (t .«vendor_hw_id»)
+  pub ours-by : {y : List ℕ} → fieldIs x v false (t .«hw_id») ≡ true → y ≡ take (d .«vendor_hw_id» .len) (d .«vendor_hw_id» .bytes)
+      → isOurs d v t ≡ fieldIs y v true (t .«vendor_hw_id»)
   unfolding isOurs
   ours-by h f = rw (← e, h, f)
 

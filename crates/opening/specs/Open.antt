@@ -5,7 +5,7 @@ use mathlib.Core.Bool.{Bool, true, false, not, _&&_, _||_}
 use lib.ListN.{take, replicate}
 use lib.Dec.{eqb, ltb}
 use Rattle.buffer.specs.Pick.{pick}
-use Rattle.csmp.specs.Values.{atMost, isText}
+use Rattle.csmp.specs.Values.{atMost, fieldIs}
 use Rattle.decode_image.specs.Read.{transferOf}
 use Rattle.csmp.specs.declared.Image.{Image}
 use Rattle.decode_image.specs.declared.Transfer.{Transfer}
@@ -37,8 +37,8 @@ isWhole t = isHash (t .hash) && (isGiven (t .«block_size») && (not (eqb (numbe
 -- 1: hwId is absent or not the device's, or a present vendorHwId differs
 unfoldable pub isOurs : Device → List ℕ → Transfer → Bool
 isOurs d v t =
-    isText (take (d .«hw_id» .len) (d .«hw_id» .bytes)) v false (t .«hw_id»)
-    && isText (take (d .«vendor_hw_id» .len) (d .«vendor_hw_id» .bytes)) v true (t .«vendor_hw_id»)
+    fieldIs (take (d .«hw_id» .len) (d .«hw_id» .bytes)) v false (t .«hw_id»)
+    && fieldIs (take (d .«vendor_hw_id» .len) (d .«vendor_hw_id» .bytes)) v true (t .«vendor_hw_id»)
 
 -- 7 if block size is 0 or over 1,024; 1; 8 if a load is pending; 4 if size exceeds the image buffer or blocks exceed 1,024
 unfoldable pub faultOf : Device → Images → List ℕ → Transfer → ℕ → ℕ → ℕ

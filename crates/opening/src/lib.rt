@@ -56,12 +56,12 @@ fn is_ours(device: Device, v: &[u8], t: Transfer) -> bool
 {
     let ours = device.hw_id.bytes;
     let hw_id = t.hw_id;
-    if !csmp::is_text(buffer::front(&ours, device.hw_id.len), v, hw_id, false) {
+    if !csmp::field_is(buffer::front(&ours, device.hw_id.len), v, hw_id, false) {
         return false;
     }
     let vendors = device.vendor_hw_id.bytes;
     let vendor = t.vendor_hw_id;
-    csmp::is_text(
+    csmp::field_is(
         buffer::front(&vendors, device.vendor_hw_id.len),
         v,
         vendor,

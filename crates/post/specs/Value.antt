@@ -1,4 +1,4 @@
--- What one record of a posted payload says to steps e to i, document 01, "Requests, in this order"; padding, document 02, Q-8.
+-- What one record of a posted payload says to steps e to i, document 01, "Requests, in this order"; padding, document 02, Q-8; text, Q-5.
 use Prim.Native.Nat.{ℕ}
 use mathlib.Core.List.{List, [], _∷_}
 use mathlib.Core.Bool.{Bool, true, false, _&&_, _||_}
@@ -18,7 +18,8 @@ use Rattle.state.specs.Groups.{heldPairs}
 use Rattle.state.specs.declared.Groups.{Groups}
 use Rattle.state.specs.declared.Pair.{Pair}
 
--- e. what is read of a value of 6, 57, 65, 67 to 70, 76, 77; others are not read. A URL over its size can't be read
+-- e. what is read of a value of 6, 57, 65, 67 to 70, 76, 77; others are not read. A URL over its size can't be read, nor a value with a
+-- string that is no text
 unfoldable pub readingAt : ℕ → List ℕ → Reading
 readingAt k v =
     pick (eqb k 6) (redirectOf v .reading)

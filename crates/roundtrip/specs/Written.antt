@@ -5,7 +5,7 @@ use mathlib.Core.List.{List, [], _∷_, _++_, map}
 use mathlib.Core.Bool.{true, false}
 use mathlib.Core.Option.{none, some}
 use lib.ListN.{length, take, replicate}
-use Rattle.decimal.specs.Decimal.{decimal, idsAmong}
+use Rattle.decimal.specs.Decimal.{IsId, decimal, idsAmong}
 use Rattle.decimal.specs.Ids.{held}
 use Rattle.decimal.specs.declared.Ids.{Ids}
 use Rattle.protobuf.specs.Each.{IfAny, Each}
@@ -25,6 +25,7 @@ use Rattle.csmp.specs.Tables.{tlvIndex, session, reportSubscribe, currentTime, 
 use Rattle.csmp.specs.Values.{momentNumber, intervalNumber}
 use Rattle.encode.specs.Write.{indexRecord, sessionRecord, reportRecord, timeRecord, groupRecord}
 use Rattle.encode_image.specs.Write.{responseRecord, runningRecord, openRecord, backupRecord}
+use Rattle.utf8.specs.Utf8.{IsText}
 use Rattle.csmp.specs.declared.Hash.{Hash}
 use Rattle.csmp.specs.declared.Image.{Image}
 use Rattle.csmp.specs.declared.Index.{Index}
@@ -110,14 +111,14 @@ Answered k =
     (h : Hash) (answer : ℕ) → length (h .bytes) ≡ 32 → answer < 2 ^ 32
     → Back k response (ifGiven (h .given) (h .bytes), (some answer, tt)) (responseRecord k h answer Never)
 
--- what the agent writes reads back
+-- what the agent writes reads back, where the strings that it writes are text
 pub record WrittenBack : Type 0 where
   -- 1 TlvIndex
-  pub index : (i : Index) → length (i .list) ≡ 68 → Back 1 tlvIndex (map decimal (take (i .count) (i .list)), tt) (indexRecord i)
+  pub index : (i : Index) → length (i .list) ≡ 68 → Each IsId (take (i .count) (i .list)) → Back 1 tlvIndex (map decimal (take (i .count) (i .list)), tt) (indexRecord i)
   -- 7 SessionID
-  pub sessionId : (s : SessionId) → length (s .bytes) ≡ 64 → Back 7 session (some (take (s .len) (s .bytes)), tt) (sessionRecord s)
+  pub sessionId : (s : SessionId) → length (s .bytes) ≡ 64 → IsText (take (s .len) (s .bytes)) → Back 7 session (some (take (s .len) (s .bytes)), tt) (sessionRecord s)
   -- 13 ReportSubscribe
-  pub report : (i : Interval) (ids : Ids) → Below (intervalNumber i) → length (ids .list) ≡ 32
+  pub report : (i : Interval) (ids : Ids) → Below (intervalNumber i) → length (ids .list) ≡ 32 → Each IsId (held ids)
       → Back 13 reportSubscribe (numberGiven (intervalNumber i), (map decimal (held ids), (none, ([], tt)))) (reportRecord i ids)
   -- 18 CurrentTime
   pub time : (p : Point) → p .0 < 2 ^ 32 → Back 18 currentTime (some (p .0), (none, (none, tt))) (timeRecord p)
@@ -135,14 +136,15 @@ pub record WrittenBack : Type 0 where
   -- 75 FirmwareImageInfo: running, open, backup
   pub running : (hash : List ℕ) → length hash ≡ 32
       → Back 75 imageInfo (some 0, (some hash, (none, (none, (none, (none, (none, (none, (some true, (none, (none, (none, tt)))))))))))) (runningRecord hash)
-  pub opened : (i : Image) (n : ℕ) (t : Moment) → Typed i → Below (momentNumber t)
+  pub opened : (i : Image) (n : ℕ) (t : Moment) → Typed i → IsText (take (i .name .len) (i .name .bytes)) → IsText (take (i .version .len) (i .version .bytes))
+      → Below (momentNumber t)
       → Back 75 imageInfo
       (some 1, (some (i .hash), (ifGiven (i .name .given) (take (i .name .len) (i .name .bytes)), (ifGiven (i .version .given) (take (i .version .len) (i .version .bytes)), (some (i .size), (some (i .«block_size»), (some (take n (i .bitmap)), (none, (none, (numberGiven (momentNumber t), (none, (none, tt))))))))))))
       (openRecord i n t)
   pub backup : (hash : List ℕ) (t : Moment) → length hash ≡ 32 → Below (momentNumber t)
       → Back 75 imageInfo (some 2, (some hash, (none, (none, (none, (none, (none, (none, (none, (numberGiven (momentNumber t), (none, (none, tt)))))))))))) (backupRecord hash t)
   -- the ids of 1 and 13 are those among the texts
-  pub ids : (ids : List ℕ) → Each (λ (id : ℕ). id < 2 ^ 32) ids → idsAmong (map decimal ids) ≡ ids
+  pub ids : (ids : List ℕ) → Each IsId ids → idsAmong (map decimal ids) ≡ ids
 
 -- so it is with every message that is read or written
 abbrev pub EveryMessage : Type 0
@@ -150,9 +152,9 @@ EveryMessage = Each RoundTripped everyTable
 
 -- 7 and 13 are read by the code's own readers as they were written
 pub record OwnReaders : Type 0 where
-  pub sessionId : (s : SessionId) → length (s .bytes) ≡ 64
+  pub sessionId : (s : SessionId) → length (s .bytes) ≡ 64 → IsText (take (s .len) (s .bytes))
       → let v = writeBy session (some (take (s .len) (s .bytes)), tt) in
       (sessionRecord s ≡ recordBytes 7 v) × (sessionOf v .reading .readable ≡ true) × (bytesGiven v (sessionOf v .id) ≡ some (take (s .len) (s .bytes)))
-  pub report : (i : Interval) (ids : Ids) → Below (intervalNumber i) → length (ids .list) ≡ 32 → Each (λ (id : ℕ). id < 2 ^ 32) (held ids)
+  pub report : (i : Interval) (ids : Ids) → Below (intervalNumber i) → length (ids .list) ≡ 32 → Each IsId (held ids)
       → let v = writeBy reportSubscribe (numberGiven (intervalNumber i), (map decimal (held ids), (none, ([], tt)))) in
       (reportRecord i ids ≡ recordBytes 13 v) × (reportOf v .reading .readable ≡ true) × (reportOf v .interval ≡ i) × (held (reportOf v .ids) ≡ held ids)

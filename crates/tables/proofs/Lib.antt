@@ -5,5 +5,6 @@ pub mod TableReadable
 pub mod TableTells
 pub mod TableLies
 pub mod TableWalk
+pub mod TableTexts
 pub mod TableSizes
 pub mod Theorems

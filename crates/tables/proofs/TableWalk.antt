@@ -12,10 +12,11 @@ use lib.Seq.{take-at, drop-at, getD-at, set-at, getD-append-seam, getD-append-ad
 use Rattle.buffer.specs.Pick.{pick}
 use Rattle.buffer.specs.Walk.{walk}
 use Rattle.protobuf.specs.Field.{fields, bytesOf}
-use Rattle.message.specs.Read.{wireOf, rowStep, firstRow, rowIn, firstOf, noted, unpadded, scanned, heldRead, knownRead, fieldRead, allRead}
+use Rattle.message.specs.Read.{wireOf, rowStep, firstRow, rowIn, firstOf, noted, unpadded, scanned, plainRead, heldRead, knownRead, fieldRead, allRead}
 use Rattle.message.specs.Read.{joined, messageRead, readInto}
+use Rattle.utf8.specs.Utf8.{isUtf8}
 use Rattle.tables.specs.Table.{Kind, uint32, bool, bytes, string, strings, message, messages, Table, end, row, Content, contentOf, contents}
-use Rattle.tables.specs.Table.{heldTells, fieldTells, allReadable, readableTo, readable, anyPadded, paddedTo, padded}
+use Rattle.tables.specs.Table.{heldTells, fieldTells, allReadable, readableTo, readable, never, anyPadded, paddedTo, padded}
 use Rattle.tables.specs.Found.{kindNumber, wireOfKind, heldRows, rowsOf, Cell, Held, Found, noneFound, Placed, placedAt, placed, cellWith}
 use Rattle.tables.specs.Found.{eachIn, heldWith, foundWith, foundIn, heldCells, cellsOf, readingOf}
 use Rattle.tables.specs.Statements.{OrderedKind, Ordered, kindLevels, levels}
@@ -90,25 +91,26 @@ found-later (row n k T) b g p o h =
     rw (ne-eqb (p .content .number) n (omega arith)) (ap (λ (x : Found T). (g .0, x)) (found-later T n (g .1) p (o .3) (omega arith)))
 
 -- a field with another wire type is not read further
-kind-other : (none : Bool) (read : Table → List ℕ → Bool) (k : Kind) (c : Content) → (c .wire ≡ wireOfKind k → ⊥) → heldTells none read k c ≡ none
+kind-other : (none : Bool) (text : List ℕ → Bool) (read : Table → List ℕ → Bool) (k : Kind) (c : Content) → (c .wire ≡ wireOfKind k → ⊥)
+    → heldTells none text read k c ≡ none
 unfolding heldTells wireOf
-kind-other none read uint32 c h = refl
-kind-other none read bool c h = refl
-kind-other none read bytes c h = refl
-kind-other none read string c h = refl
-kind-other none read strings c h = refl
-kind-other none read (message U) c h = rw (ne-eqb (c .wire) 2 h)
-kind-other none read (messages U) c h = rw (ne-eqb (c .wire) 2 h)
+kind-other none text read uint32 c h = refl
+kind-other none text read bool c h = refl
+kind-other none text read bytes c h = refl
+kind-other none text read string c h = rw (ne-eqb (c .wire) 2 h)
+kind-other none text read strings c h = rw (ne-eqb (c .wire) 2 h)
+kind-other none text read (message U) c h = rw (ne-eqb (c .wire) 2 h)
+kind-other none text read (messages U) c h = rw (ne-eqb (c .wire) 2 h)
 
 -- what is told of a message of at most d levels, of what a row's field holds, and of a field
 abbrev toldTo : ℕ → Table → List ℕ → Reading
 toldTo d T s = record { readable = readableTo d T s; padded = paddedTo d T s }
 
 abbrev toldOf : ℕ → Kind → Content → Reading
-toldOf d k c = record { readable = heldTells true (readableTo d) k c; padded = heldTells false (paddedTo d) k c }
+toldOf d k c = record { readable = heldTells true isUtf8 (readableTo d) k c; padded = heldTells false never (paddedTo d) k c }
 
 abbrev toldBy : ℕ → Table → Content → Reading
-toldBy d T c = record { readable = fieldTells true (readableTo d) T c; padded = fieldTells false (paddedTo d) T c }
+toldBy d T c = record { readable = fieldTells true isUtf8 (readableTo d) T c; padded = fieldTells false never (paddedTo d) T c }
 
 -- what is proved of the messages of at most d levels
 abbrev Walks : ℕ → Type 0
@@ -146,18 +148,18 @@ module _ (d : ℕ) (ih : Walks d) where
         )
 
     module _ (base : ℕ) (s : List ℕ) (f : Field) where
-      -- a field with the wire type of its row's kind is read further where that holds a message
+      -- a field with the wire type of its row's kind is read further where that holds a text or a message
       kind-held : (k : Kind) (h : Held k) (c : Cell) → OrderedKind k → kindLevels k ≤ d → f .wire ≡ wireOfKind k
-          → pick (ltb (kindNumber k) 11) (scanned (unpadded true) (cfront ++ cellsWith k (c, h) crest))
+          → pick (ltb (kindNumber k) 11) (scanned (plainRead (kindNumber k) (bytesOf s f)) (cfront ++ cellsWith k (c, h) crest))
           (heldRead (messageRead d) (front ++ rowWith n k rest) (cfront ++ cellsWith k (c, h) crest)
           (length front + 3) (length front + 3 + length (heldRows k)) (base + f .start) (bytesOf s f))
           ≡ scanned (toldOf d k (contentOf s f)) (cfront ++ cellsWith k (c, heldWith k h (placedAt base s f)) crest)
-      unfolding heldTells wireOf heldRows heldCells heldWith
+      unfolding plainRead heldTells wireOf heldRows heldCells heldWith
       kind-held uint32 h c o l w = refl
       kind-held bool h c o l w = refl
       kind-held bytes h c o l w = refl
-      kind-held string h c o l w = refl
-      kind-held strings h c o l w = refl
+      kind-held string h c o l w = rw (eq-eqb (f .wire) 2 w)
+      kind-held strings h c o l w = rw (eq-eqb (f .wire) 2 w)
       kind-held (message U) h c o l w = rw (eq-eqb (f .wire) 2 w) (held-part U h c 11 (length (rowsOf U)) (base + f .start) (bytesOf s f) o l)
       kind-held (messages U) h c o l w = rw (eq-eqb (f .wire) 2 w) (held-part U h c 12 (length (rowsOf U)) (base + f .start) (bytesOf s f) o l)
 
@@ -174,7 +176,7 @@ module _ (d : ℕ) (ih : Walks d) where
           (λ h. let q = eqb-true (f .wire) w h in
           rw (h, eq-eqb w (f .wire) (sym q), noted-at cfront (x .0) (heldCells k (x .1) ++ crest) (length front) base s f same)
           (kind-held k (x .1) (cellWith (x .0) (placedAt base s f)) o l q))
-          (λ h. let q = eqb-false (f .wire) w h in rw (h, ne-eqb w (f .wire) (λ r. q (sym r)), kind-other true (readableTo d) k (contentOf s f) q, kind-other false (paddedTo d) k (contentOf s f) q))
+          (λ h. let q = eqb-false (f .wire) w h in rw (h, ne-eqb w (f .wire) (λ r. q (sym r)), kind-other true isUtf8 (readableTo d) k (contentOf s f) q, kind-other false never (paddedTo d) k (contentOf s f) q))
 
   module _ (base : ℕ) (s : List ℕ) (f : Field) where
     -- a field, by the rows behind a front

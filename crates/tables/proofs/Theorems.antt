@@ -7,7 +7,7 @@ use lib.ListN.{length}
 use Rattle.message.specs.Read.{Scan, scanned, readInto, Scanned}
 use Rattle.message.specs.declared.Reading.{Reading}
 use Rattle.tables.specs.Found.{rowsOf, noneFound, cellsOf, foundIn, readingOf}
-use Rattle.tables.specs.Statements.{Formed, Small, RoundTrip, OneReader}
+use Rattle.tables.specs.Statements.{Formed, Small, Texts, RoundTrip, OneReader}
 use Rattle.tables.specs.Table.{Table, Values, readable, padded, readBy, writeBy}
 use Rattle.tables.proofs.TableContents.{Fit}
 use Rattle.tables.proofs.TableReadable.{written-readable, written-unpadded}
@@ -23,16 +23,16 @@ module _ {T : Table} (f : Formed T) (v : Values T) (m : Small T v) (n : length (
   unfolding readBy
   read-back = nested-back T v fit (values-back T 0 [] v fit tt)
 
-  read-whole : readable T (writeBy T v) ≡ true
+  read-whole : Texts T v → readable T (writeBy T v) ≡ true
   unfolding readable
-  read-whole = written-readable 4 T v (f .shallow) fit
+  read-whole x = written-readable 4 T v (f .shallow) fit x
 
   read-unpadded : padded T (writeBy T v) ≡ false
   unfolding padded
   read-unpadded = written-unpadded 4 T v (f .shallow) fit
 
 pub round-trip : RoundTrip
-round-trip T f = record { whole = read-whole f; unpadded = read-unpadded f; back = read-back f; unchanged = λ v s m n e. rw e (ap (writeBy T) (read-back f v m n)) }
+round-trip T f = record { whole = λ v m x n. read-whole f v m n x; unpadded = read-unpadded f; back = read-back f; unchanged = λ v s m n e. rw e (ap (writeBy T) (read-back f v m n)) }
 
 pub one-reader : OneReader
 one-reader = record { walks = λ T s f. walks T s (f .ordered) (f .shallow); tells = tells }

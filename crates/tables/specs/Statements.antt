@@ -7,6 +7,7 @@ use mathlib.Core.Option.{none, some}
 use lib.ListN.{length}
 use Rattle.protobuf.specs.Each.{IfAny, Each}
 use Rattle.protobuf.specs.Given.{numberGiven, flagGiven, bytesGiven}
+use Rattle.utf8.specs.Utf8.{IsText}
 use Rattle.message.specs.Read.{readInto, scanned}
 use Rattle.tables.specs.Table.{Kind, uint32, bool, bytes, string, strings, message, messages, Table, end, row, Value, Values, readable, padded, readBy, writeBy}
 use Rattle.tables.specs.Found.{rowsOf, Cell, Held, Found, noneFound, foundIn, cellsOf, numberIn, flagIn, bytesIn, readingOf}
@@ -56,20 +57,45 @@ abbrev mutual
   Small end v = Unit {0}
   Small (row n k T) v = SmallValue k (v .0) × Small T (v .1)
 
+-- what holds of each string of a message, and of those that its parts hold
+module _ (P : List ℕ → Type 0) where
+  abbrev mutual
+    pub StringsOf : (k : Kind) → Value k → Type 0
+    StringsOf uint32 v = Unit {0}
+    StringsOf bool v = Unit {0}
+    StringsOf bytes v = Unit {0}
+    StringsOf string v = IfAny P v
+    StringsOf strings v = Each P v
+    StringsOf (message T) v = IfAny (λ (m : Values T). StringsIn T m) v
+    StringsOf (messages T) v = Each (λ (m : Values T). StringsIn T m) v
+
+    pub StringsIn : (T : Table) → Values T → Type 0
+    StringsIn end v = Unit {0}
+    StringsIn (row n k T) v = StringsOf k (v .0) × StringsIn T (v .1)
+
+-- strings are text
+abbrev pub Texts : (T : Table) → Values T → Type 0
+Texts = StringsIn IsText
+
 -- a table of document 000's kind
 pub record Formed (T : Table) : Type 0 where
   pub ordered : Ordered 0 T
   pub shallow : levels T ≤ 4
 
--- values that are written read back as the same values, are not padded, and bytes in the written form come out unchanged
+-- values that are written read back as the same values, are not padded, and bytes in the written form come out unchanged; whoever writes must see that
+-- strings are text, or the value can't be read
 pub record RoundTripped (T : Table) : Type 0 where
-  pub whole : (v : Values T) → Small T v → length (writeBy T v) < 2 ^ 64 → readable T (writeBy T v) ≡ true
+  pub whole : (v : Values T) → Small T v → Texts T v → length (writeBy T v) < 2 ^ 64 → readable T (writeBy T v) ≡ true
   pub unpadded : (v : Values T) → Small T v → length (writeBy T v) < 2 ^ 64 → padded T (writeBy T v) ≡ false
   pub back : (v : Values T) → Small T v → length (writeBy T v) < 2 ^ 64 → readBy T (writeBy T v) ≡ v
   pub unchanged : (v : Values T) (s : List ℕ) → Small T v → length (writeBy T v) < 2 ^ 64 → s ≡ writeBy T v → writeBy T (readBy T s) ≡ s
 
 abbrev pub RoundTrip : Type 0
 RoundTrip = (T : Table) → Formed T → RoundTripped T
+
+-- document 02, Q-5: the strings of a value that can be read are text
+abbrev pub TextsRead : Type 0
+TextsRead = (T : Table) (s : List ℕ) → Formed T → readable T s ≡ true → Texts T (readBy T s)
 
 -- how many are counted
 abbrev pub counted : ℕ → ℕ

@@ -1,5 +1,5 @@
 -- Messages by tables: one definition reads by a table of the known fields, one writes by it (document 01, "Records and fields"); padding, document
--- 02, Q-8.
+-- 02, Q-8; text, Q-5.
 use Prim.Native.Nat.{ℕ, zero, suc, _%_, _^_}
 use mathlib.Core.List.{List, [], _∷_, _++_, map}
 use mathlib.Core.Bool.{Bool, true, false, not, _&&_, _||_}
@@ -9,6 +9,7 @@ use Rattle.buffer.specs.Pick.{pick}
 use Rattle.protobuf.specs.Field.{fields, bytesOf}
 use Rattle.protobuf.specs.Write.{numberField, bytesField, ifAny, each}
 use Rattle.protobuf.specs.declared.Field.{Field}
+use Rattle.utf8.specs.Utf8.{isUtf8}
 
 -- What a field may hold, and the known fields of a message: each a number and a kind.
 mutual
@@ -102,15 +103,15 @@ unfoldable mutual
 unfoldable pub readBy : (T : Table) → List ℕ → Values T
 readBy T s = valuesOf T (contents s)
 
--- what the messages tell that fields hold; `nothing` is told of a field that has no row, or another wire type, or whose row holds no message: it is
--- not read further
-module _ (nothing : Bool) (read : Table → List ℕ → Bool) where
+-- what the texts and messages tell that fields hold; `nothing` is told of a field that has no row, or another wire type, or whose row holds neither:
+-- it is not read further
+module _ (nothing : Bool) (text : List ℕ → Bool) (read : Table → List ℕ → Bool) where
   unfoldable pub heldTells : Kind → Content → Bool
   heldTells uint32 f = nothing
   heldTells bool f = nothing
   heldTells bytes f = nothing
-  heldTells string f = nothing
-  heldTells strings f = nothing
+  heldTells string f = pick (eqb (f .wire) 2) (text (f .bytes)) nothing
+  heldTells strings f = pick (eqb (f .wire) 2) (text (f .bytes)) nothing
   heldTells (message T) f = pick (eqb (f .wire) 2) (read T (f .bytes)) nothing
   heldTells (messages T) f = pick (eqb (f .wire) 2) (read T (f .bytes)) nothing
 
@@ -118,10 +119,11 @@ module _ (nothing : Bool) (read : Table → List ℕ → Bool) where
   fieldTells end f = nothing
   fieldTells (row n k T) f = pick (eqb (f .number) n) (heldTells k f) (fieldTells T f)
 
--- and whether it can be read: its fields to the end, and so the messages that they hold
+-- and whether it can be read: its fields to the end, and so the messages that they hold; document 02, Q-5: every string is well-formed UTF-8, one that
+-- a later one overrides too
 unfoldable pub allReadable : (Table → List ℕ → Bool) → Table → List Content → Bool
 allReadable read T [] = true
-allReadable read T (f ∷ fs) = fieldTells true read T f && allReadable read T fs
+allReadable read T (f ∷ fs) = fieldTells true isUtf8 read T f && allReadable read T fs
 
 -- a message of at most so many levels, itself the first; nesting stops at 4
 unfoldable pub readableTo : ℕ → Table → List ℕ → Bool
@@ -132,10 +134,13 @@ unfoldable pub readable : Table → List ℕ → Bool
 readable T s = readableTo 4 T s
 
 -- document 02, Q-8: whether a varint that is read is padded: every tag, length and number, those of skipped fields too, and so in the messages
--- that fields hold; the bytes of a skipped field don't count
+-- that fields hold; the bytes of a skipped field don't count, nor do those of a text
+abbrev pub never : List ℕ → Bool
+never bs = false
+
 unfoldable pub anyPadded : (Table → List ℕ → Bool) → Table → List Content → Bool
 anyPadded read T [] = false
-anyPadded read T (f ∷ fs) = (f .padded || fieldTells false read T f) || anyPadded read T fs
+anyPadded read T (f ∷ fs) = (f .padded || fieldTells false never read T f) || anyPadded read T fs
 
 unfoldable pub paddedTo : ℕ → Table → List ℕ → Bool
 paddedTo zero T s = false

@@ -11,7 +11,7 @@ use Rattle.buffer.proofs.Tests.{both}
 use Rattle.buffer.specs.Pick.{pick}
 use Rattle.decode_image.specs.declared.Block.{Block}
 use Rattle.csmp.specs.declared.Image.{Image}
-use Rattle.csmp.specs.Values.{isText}
+use Rattle.csmp.specs.Values.{fieldIs}
 use Rattle.protobuf.specs.declared.Bytes.the-variants.{At, Absent}
 use Rattle.protobuf.specs.declared.Number.the-variants.{Given, Absent as NoNumber}
 use Rattle.transfer.specs.Bitmap.{held, marked, oneMore, withHeld}
@@ -86,13 +86,13 @@ module _ (i : Image) (bs : List ℕ) {size each number : ℕ} {map : List ℕ} (
 
   -- an offer is taken by its hash, its number and its bytes
   module _ (v : List ℕ) (b : Block) {hash : List ℕ} (e : i .hash ≡ hash) where
-    hash-parts : isText (i .hash) v false (b .hash) ≡ isText hash v false (b .hash)
+    hash-parts : fieldIs (i .hash) v false (b .hash) ≡ fieldIs hash v false (b .hash)
     hash-parts = rw e
 
-    pub left-other : isText hash v false (b .hash) ≡ false → Left (takeOf i bs v b) (withHeld i map number) bs
+    pub left-other : fieldIs hash v false (b .hash) ≡ false → Left (takeOf i bs v b) (withHeld i map number) bs
     left-other h = left-by (rw (hash-parts ∙ h) unchanged)
 
-    module _ (h : isText hash v false (b .hash) ≡ true) where
+    module _ (h : fieldIs hash v false (b .hash) ≡ true) where
       pub left-numberless : b .number ≡ NoNumber → Left (takeOf i bs v b) (withHeld i map number) bs
       left-numberless g = left-by (rw (hash-parts ∙ h, g) unchanged)
 

@@ -10,7 +10,7 @@ use lib.Seq.{sets}
 use Rattle.buffer.specs.Pick.{pick}
 use Rattle.decode_image.specs.Read.{blockOf}
 use Rattle.decode_image.specs.declared.Block.{Block}
-use Rattle.csmp.specs.Values.{isText}
+use Rattle.csmp.specs.Values.{fieldIs}
 use Rattle.csmp.specs.declared.Image.{Image}
 use Rattle.protobuf.specs.Given.{numberGiven, bytesGiven}
 use Rattle.transfer.specs.Blocks.{blocks, blockLength}
@@ -55,7 +55,7 @@ offerOf (some n) none = none
 offerOf (some n) (some bs) = some (record { number = n; bytes = bs })
 
 abbrev pub offeredBy : Image → List ℕ → Block → Option Offer
-offeredBy i v b = pick (isText (i .hash) v false (b .hash)) (offerOf (numberGiven (b .number)) (bytesGiven v (b .«data»))) none
+offeredBy i v b = pick (fieldIs (i .hash) v false (b .hash)) (offerOf (numberGiven (b .number)) (bytesGiven v (b .«data»))) none
 
 unfoldable pub offered : Image → List ℕ → Option Offer
 offered i v = offeredBy i v (blockOf v)

@@ -67,7 +67,7 @@ pub fn take_block(
     ensures { λ r. ⌜ ((i : Image) → i .hash ≡ now (hash .entry) → Parts i size «block_size» (now (map .entry)) held → Left (takeOf i (now (flash .entry)) (now (v .entry)) block) (withHeld i (now (map .exit)) r) (now (flash .exit))) ⌝ }
 {
     let given = block.hash;
-    if !csmp::is_text(hash, v, given, false) {
+    if !csmp::field_is(hash, v, given, false) {
         return held;
     }
     let number = block.number;

@@ -1,13 +1,14 @@
 // Prints what the readers say of outside vectors, and then records that the writers make, in hex.
 //
 // Each record on standard input holds one vector, a record itself, and its type says which kind of vector that is: 1 the
-// fields of a message (`fields`), 2 a datagram (`frames`), 3 a message of the CSMP draft (`messages`). No line of the
-// output to meet was taken from this program.
+// fields of a message (`fields`), 2 a datagram (`frames`), 3 a message of the CSMP draft (`messages`), 4 bytes that may be text
+// (`texts`). No line of the output to meet was taken from this program.
 mod fields;
 mod frames;
 mod made;
 mod messages;
 mod say;
+mod texts;
 
 use libc::STDIN_FILENO;
 use tlv::Taken;
@@ -17,6 +18,7 @@ fn print_as(vectors: u64, kind: u64, v: &[u8]) {
         1 => fields::print(kind, v),
         2 => frames::print(kind, v),
         3 => messages::print(kind, v),
+        4 => texts::print(v),
         _ => lines::word(b"unknown\n"),
     }
 }

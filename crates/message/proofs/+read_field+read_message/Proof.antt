@@ -23,6 +23,7 @@ use Rattle.message.proofs.+read_field+read_message.Lts-read_message as 
 use Rattle.message.proofs.cut.Reads as cut-reads
 use Rattle.message.proofs.join.Reads as join-reads
 use Rattle.message.proofs.note.Reads as note-reads
+use Rattle.message.proofs.read_plain.Reads as plain-reads
 use Rattle.message.proofs.row_of.Reads as row-of-reads
 use Rattle.message.proofs.told.Reads as told-reads
 use Rattle.message.proofs.wire_of.Reads as wire-of-reads
@@ -51,7 +52,7 @@ message-asked t = and 3 message-kinds.ps (falls 3 message-kinds.ps _<_ μ-messag
 
 abbrev field-calls : ℕ → field-lts.Claims
 field-calls t =
-    (row-of-reads.Asked, row-of-reads.Learnt, told-reads.Asked, told-reads.Learnt, wire-of-reads.Asked, wire-of-reads.Learnt, note-reads.Asked, note-reads.Learnt, message-asked t, message.Post)
+    (row-of-reads.Asked, row-of-reads.Learnt, told-reads.Asked, told-reads.Learnt, wire-of-reads.Asked, wire-of-reads.Learnt, note-reads.Asked, note-reads.Learnt, plain-reads.Asked, plain-reads.Learnt, message-asked t, message.Post)
 
 abbrev message-calls : ℕ → message-lts.Claims
 message-calls t = (told-reads.Asked, told-reads.Learnt, field-at-reads.Asked, field-at-reads.Learnt, cut-reads.Asked, cut-reads.Learnt, field-asked t, field.Post, join-reads.Asked, join-reads.Learnt)
@@ -95,14 +96,14 @@ module _ (t : ℕ) where
   field-note-requires : field-lts.Need-note-requires (field-calls t) (field-given t) field.Post
   field-note-requires c κs = let b = known-within (c .before .before .before .before .before .before .before .before .before .before .before .args .table .now) _ _ _ _ (sym (c .before .before .before .before .before .before .before .row-of .ensures) ∙ c .before .before .before .before .before .kind .given .1) in let p = c .before .before .before .before .before .before .before .before .before .before .before .pre .1 in (omega arith, omega arith, omega arith)
 
-  field-told-requires-3 : field-lts.Need-told-requires-3 (field-calls t) (field-given t) field.Post
-  field-told-requires-3 c κs = tt
+  field-read-plain-requires : field-lts.Need-read-plain-requires (field-calls t) (field-given t) field.Post
+  field-read-plain-requires c κs = let p = c .before .before .before .before .before .before .before .before .before .before .before .before .before .before .before .pre .1 in (p .2, p .3)
 
   field-same-length : field-lts.Need-same-length (field-calls t) (field-given t) field.Post
   field-same-length c = search needs
 
   field-returns-3 : field-lts.Need-returns-3 (field-calls t) (field-given t) field.Post
-  field-returns-3 c = leaves (unpadded true) _ (field-noted _ _ _ _ _ _ _ _ _ (sym (c .before .before .before .before .before .before .before .before .before .before .before .before .row-of .ensures) ∙ c .before .before .before .before .before .before .before .before .before .before .kind .given .1) (sym (c .before .before .before .before .before .before .before .before .wire-of .ensures) ∙ c .before .before .before .before .before .before .if1 .left) (c .before .if2 .taken)) (c .told3 .ensures) (c .before .before .before .before .note .ensures)
+  field-returns-3 c = leaves _ _ (field-noted _ _ _ _ _ _ _ _ _ (sym (c .before .before .before .before .before .before .before .before .before .before .before .before .row-of .ensures) ∙ c .before .before .before .before .before .before .before .before .before .before .kind .given .1) (sym (c .before .before .before .before .before .before .before .before .wire-of .ensures) ∙ c .before .before .before .before .before .before .if1 .left) (c .before .if2 .taken)) (c .read-plain .ensures) (c .before .before .before .before .note .ensures)
 
   field-add-from : field-lts.Need-add-from (field-calls t) (field-given t) field.Post
   field-add-from c = let b = known-within (c .before .before .before .before .before .before .before .before .before .before .before .before .before .before .before .args .table .now) _ _ _ _ (sym (c .before .before .before .before .before .before .before .before .before .before .before .row-of .ensures) ∙ c .before .before .before .before .before .before .before .before .before .kind .given .1) in let p = c .before .before .before .before .before .before .before .before .before .before .before .before .before .before .before .pre .1 in omega arith
@@ -204,4 +205,4 @@ module _ (t : ℕ) where
   message-returns-3 c = leaves (c .before .loop .reading) _ (c .before .loop .inv .walked ∙ ap (remaining _ _ _ _ _ _) (fields-end _ _ (c .loop-test .left)) ∙ all-ended _ _ _ _ _ _ _) refl refl
 
 pub +read-field+read-message-spec : {M : Type 1} → statement M
-+read-field+read-message-spec = close μ-field μ-message (λ t. field-lts.spec (field-calls t) (field-given t) field.Post (field-row-of-requires t) (field-enum-known-kind t) (field-enum-told t) (field-told-requires t) (field-returns t) (field-wire-of-requires t) (field-told-requires-2 t) (field-returns-2 t) (field-note-requires t) (field-told-requires-3 t) (field-same-length t) (field-returns-3 t) (field-add-from t) (field-sub-read-message t) (field-part-read-message-start t) (field-part-read-message-end t) (field-add-read-message t) (field-mul-read-message t) (field-sub-read-message-2 t) (field-part-read-message-start-2 t) (field-part-read-message-end-2 t) (field-mul-read-message-2 t) (field-sub-read-message-3 t) (field-part-read-message-start-3 t) (field-part-read-message-end-3 t) (field-read-message-requires t) (field-same-length-2 t) (field-returns-4 t)) (λ t. message-lts.spec (message-calls t) (message-given t) message.Post Inv-loop μ-loop (message-told-requires t) (message-returns t) (message-told-requires-2 t) (message-loop-holds t) (message-field-at-requires t) (message-enum-known-f t) (message-enum-told t) (message-cut-requires t) (message-same-length t) (message-returns-2 t) (message-sub-read-field t) (message-read-field-requires t) (message-join-requires t) (message-loop-less t) (message-loop-again t) (message-same-length-2 t) (message-returns-3 t))
++read-field+read-message-spec = close μ-field μ-message (λ t. field-lts.spec (field-calls t) (field-given t) field.Post (field-row-of-requires t) (field-enum-known-kind t) (field-enum-told t) (field-told-requires t) (field-returns t) (field-wire-of-requires t) (field-told-requires-2 t) (field-returns-2 t) (field-note-requires t) (field-read-plain-requires t) (field-same-length t) (field-returns-3 t) (field-add-from t) (field-sub-read-message t) (field-part-read-message-start t) (field-part-read-message-end t) (field-add-read-message t) (field-mul-read-message t) (field-sub-read-message-2 t) (field-part-read-message-start-2 t) (field-part-read-message-end-2 t) (field-mul-read-message-2 t) (field-sub-read-message-3 t) (field-part-read-message-start-3 t) (field-part-read-message-end-3 t) (field-read-message-requires t) (field-same-length-2 t) (field-returns-4 t)) (λ t. message-lts.spec (message-calls t) (message-given t) message.Post Inv-loop μ-loop (message-told-requires t) (message-returns t) (message-told-requires-2 t) (message-loop-holds t) (message-field-at-requires t) (message-enum-known-f t) (message-enum-told t) (message-cut-requires t) (message-same-length t) (message-returns-2 t) (message-sub-read-field t) (message-read-field-requires t) (message-join-requires t) (message-loop-less t) (message-loop-again t) (message-same-length-2 t) (message-returns-3 t))

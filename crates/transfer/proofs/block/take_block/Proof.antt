@@ -6,12 +6,12 @@ use borrow.Author.Needs.{needs}
 use Rattle.transfer.proofs.block.take_block.Statement.{statement}
 use Rattle.transfer.proofs.block.take_block.Tie as tie
 
-is-text-requires : tie.Need-is-text-requires
-is-text-requires c κs = search needs
+field-is-requires : tie.Need-field-is-requires
+field-is-requires c κs = search needs
 
 returns : tie.Need-returns
 returns c = λ i h p. let a = c .before .before .before .before .before .args in
-    left-other i (a .flash .now) p (a .v .now) (a .block) h (sym (c .before .is-text .ensures) ∙ not-true _ (c .if1 .taken))
+    left-other i (a .flash .now) p (a .v .now) (a .block) h (sym (c .before .field-is .ensures) ∙ not-true _ (c .if1 .taken))
 
 enum-known-number : tie.Need-enum-known-number
 enum-known-number c = search needs
@@ -21,7 +21,7 @@ enum-told c = search needs
 
 returns-2 : tie.Need-returns-2
 returns-2 c = λ i h p. let a = c .before .before .before .before .before .before .before .args in
-    left-numberless i (a .flash .now) p (a .v .now) (a .block) h (sym (c .before .before .before .is-text .ensures) ∙ not-false _ (c .before .before .if1 .left)) (c .enum-told .given .1)
+    left-numberless i (a .flash .now) p (a .v .now) (a .block) h (sym (c .before .before .before .field-is .ensures) ∙ not-false _ (c .before .before .if1 .left)) (c .enum-told .given .1)
 
 enum-known-place : tie.Need-enum-known-place
 enum-known-place c = search needs
@@ -31,7 +31,7 @@ enum-told-2 c = search needs
 
 returns-3 : tie.Need-returns-3
 returns-3 c = λ i h p. let a = c .before .before .before .before .before .before .before .before .before .before .args in
-    left-dataless i (a .flash .now) p (a .v .now) (a .block) h (sym (c .before .before .before .before .before .before .is-text .ensures) ∙ not-false _ (c .before .before .before .before .before .if1 .left))
+    left-dataless i (a .flash .now) p (a .v .now) (a .block) h (sym (c .before .before .before .before .before .before .field-is .ensures) ∙ not-false _ (c .before .before .before .before .before .if1 .left))
     (c .before .before .before .number .given .1) (c .enum-told2 .given .1)
 
 part-requires : tie.Need-part-requires
@@ -45,14 +45,14 @@ same-length c = search needs
 
 returns-4 : tie.Need-returns-4
 returns-4 c = λ i h p. let x = c .before .before .before .before .before .before .before in let a = x .before .before .before .before .before .before .before .before .before .before .args in
-    left-this i (a .flash .now) p (a .v .now) (a .block) h (sym (x .before .before .before .before .before .before .is-text .ensures) ∙ not-false _ (x .before .before .before .before .before .if1 .left))
+    left-this i (a .flash .now) p (a .v .now) (a .block) h (sym (x .before .before .before .before .before .before .field-is .ensures) ∙ not-false _ (x .before .before .before .before .before .if1 .left))
     (x .before .before .before .number .given .1) (x .place .given .1) (c .before .before .before .part .ensures) (c .before .before .put-block .ensures i p)
 
 pub take-block-spec : {M : Type 1} → statement M
 take-block-spec =
     tie.close
     (tie.spec
-    is-text-requires
+    field-is-requires
     returns
     enum-known-number
     enum-told

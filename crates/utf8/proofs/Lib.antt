@@ -1,0 +1,4 @@
+pub mod FormLaws
+pub mod PassLaws
+pub mod EncodeLaws
+pub mod Theorems
