@@ -46,7 +46,7 @@ module _ (l : Learnt) (verdict : ℕ) (required : Bool) where
   takable-placed h k m = rw (h, k, m)
 
 module _ (s : State) (l : Learnt) where
-  pub taken-redirected : l .redirected ≡ true → takenBy s l ≡ record { device = s .device; images = s .images; assigned = s .assigned; registration = l .registration }
+  pub taken-redirected : l .redirected ≡ true → takenBy s l ≡ record { device = s .device; images = s .images; assigned = s .assigned; registration = l .registration; waiting = s .waiting }
   unfolding takenBy
   taken-redirected h = rw h
 

@@ -37,13 +37,14 @@ acceptedBy s l =
             url = s .registration .url;
             «message_id» = s .registration .«message_id»;
           };
+      waiting = s .waiting;
     }
 
 -- with a redirect only that is done, and registration restarts
 unfoldable pub takenBy : State → Learnt → State
 takenBy s l =
     pick (l .redirected)
-    (record { device = s .device; images = s .images; assigned = s .assigned; registration = l .registration })
+    (record { device = s .device; images = s .images; assigned = s .assigned; registration = l .registration; waiting = s .waiting })
     (acceptedBy s l)
 
 -- all others change nothing

@@ -16,17 +16,45 @@ fn show(outcome: u32, len: usize) {
     lines::number(len as u64);
 }
 
-fn datagram(state: State, image: &mut [u8], out: &mut [u8], store: &[u8], line: &[u8]) -> State {
+fn datagram(
+    state: State,
+    answers: &mut [u8; 4736],
+    image: &mut [u8],
+    out: &mut [u8],
+    store: &[u8],
+    line: &[u8],
+) -> State {
     let mut bytes = [0u8; 2048];
     let n = script::unhex(script::value(line, b" in="), &mut bytes);
     let given = buffer::front(&bytes, n);
     let verdict = (script::number(line, b" verdict=") % 256) as u8;
     let time = script::time(line);
-    let mut last = agent::datagram(state, image, out, given, store, time, verdict);
+    let random = script::number(line, b" r=");
+    let mut last = agent::datagram(
+        state,
+        answers,
+        image,
+        out,
+        given,
+        store,
+        time,
+        verdict,
+        random,
+    );
     let times = script::number(line, b" times=");
     let mut i = 1;
     while i < times {
-        last = agent::datagram(state, image, out, given, store, time, verdict);
+        last = agent::datagram(
+            state,
+            answers,
+            image,
+            out,
+            given,
+            store,
+            time,
+            verdict,
+            random,
+        );
         i += 1;
     }
     show(last.outcome, last.len);
@@ -63,11 +91,33 @@ fn report(state: State, out: &mut [u8], store: &[u8], line: &[u8]) -> State {
     last.state
 }
 
+fn due(state: State, answers: &[u8; 4736], out: &mut [u8], store: &[u8], line: &[u8]) -> State {
+    let time = script::time(line);
+    let mut last = agent::answer_due(state, answers, out, store, time);
+    let times = script::number(line, b" times=");
+    let mut i = 1;
+    while i < times {
+        last = agent::answer_due(state, answers, out, store, time);
+        i += 1;
+    }
+    show(last.outcome, last.len);
+    last.state
+}
+
 // A call that is lent buffers. Other lines are no calls.
-fn lend(state: State, image: &mut [u8], store: &[u8], line: &[u8]) -> State {
+fn lend(
+    state: State,
+    answers: &mut [u8; 4736],
+    image: &mut [u8],
+    store: &[u8],
+    line: &[u8],
+) -> State {
     let mut out = [0u8; 1280];
     if script::stands(line, 0, b"datagram ") {
-        return datagram(state, image, &mut out, store, line);
+        return datagram(state, answers, image, &mut out, store, line);
+    }
+    if script::stands(line, 0, b"due ") {
+        return due(state, answers, &mut out, store, line);
     }
     if script::stands(line, 0, b"round ") {
         return round(state, &mut out, store, line);
@@ -79,21 +129,21 @@ fn lend(state: State, image: &mut [u8], store: &[u8], line: &[u8]) -> State {
 }
 
 // Lends as much of the image buffer as the setup says, and the store that `hex` spells.
-fn ask(state: State, image: &mut [u8], line: &[u8], hex: &[u8]) -> State {
+fn ask(state: State, answers: &mut [u8; 4736], image: &mut [u8], line: &[u8], hex: &[u8]) -> State {
     let mut bytes = [0u8; 8192];
     let n = script::unhex(hex, &mut bytes);
     let store = buffer::front(&bytes, n);
     let size = script::image_room(state, image.len());
-    lend(state, &mut image[..size], store, line)
+    lend(state, answers, &mut image[..size], store, line)
 }
 
 // A call by its name; a setup begins with another device.
-fn act(state: State, image: &mut [u8], line: &[u8], hex: &[u8]) -> State {
+fn act(state: State, answers: &mut [u8; 4736], image: &mut [u8], line: &[u8], hex: &[u8]) -> State {
     if script::stands(line, 0, b"setup ") {
         let made = script::set_up(line);
         return made.state;
     }
-    ask(state, image, line, hex)
+    ask(state, answers, image, line, hex)
 }
 
 // What a line is printed by: its name, or its first word.
@@ -105,14 +155,21 @@ fn label(line: &[u8]) -> &[u8] {
     name
 }
 
-fn play_line(state: State, image: &mut [u8], line: &[u8], hex: &[u8]) -> State {
+fn play_line(
+    state: State,
+    answers: &mut [u8; 4736],
+    image: &mut [u8],
+    line: &[u8],
+    hex: &[u8],
+) -> State {
     lines::word(label(line));
-    let next = act(state, image, line, hex);
+    let next = act(state, answers, image, line, hex);
     lines::word(b"\n");
     next
 }
 
 fn play(s: &[u8]) {
+    let mut answers = [0u8; 4736];
     let mut image = [0u8; 1048576];
     let none = script::set_up(b"");
     let mut state = none.state;
@@ -123,6 +180,7 @@ fn play(s: &[u8]) {
         held = script::held(s, held, line);
         state = play_line(
             state,
+            &mut answers,
             &mut image,
             script::of(s, line),
             script::store_of(s, held, line),

@@ -244,7 +244,7 @@ module _ (s : State) (id : ℕ) (p : List ℕ) (time : Point) (verdict : ℕ) wh
   learntBy = learntFrom (s .device) (s .registration) (s .assigned) time p
 
   pub by-taken : (P : State → Type 0) → P s
-      → (learntBy .readable ≡ true → P (record { device = s .device; images = s .images; assigned = s .assigned; registration = learntBy .registration }))
+      → (learntBy .readable ≡ true → P (record { device = s .device; images = s .images; assigned = s .assigned; registration = learntBy .registration; waiting = s .waiting }))
       → (learntBy .readable ≡ true → learntBy .«needs_ninth» ≡ false → P (acceptedBy s learntBy))
       → P (acknowledged s id p time verdict)
   unfolding acknowledged taken takenBy
@@ -262,10 +262,11 @@ unfolding acceptedBy
 acknowledged-sized s sized id p time verdict =
     let h = from-sized (s .device) (sized .device) (s .registration) (s .assigned) time p (sized .registration) (sized .assigned) in
     by-taken s id p time verdict Sized sized
-    (λ r. record { device = sized .device; images = sized .images; assigned = sized .assigned; registration = h r .registration })
+    (λ r. record { device = sized .device; images = sized .images; assigned = sized .assigned; registration = h r .registration; waiting = sized .waiting })
     (λ r _. record {
       device = sized .device;
       images = sized .images;
       assigned = h r .assigned;
       registration = record { url = sized .registration .url; text = sized .registration .text; interval = sized .registration .interval };
+      waiting = sized .waiting;
     })

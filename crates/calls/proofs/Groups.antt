@@ -16,6 +16,7 @@ use Rattle.coap.specs.Frame.{frameOf}
 use Rattle.coap.specs.declared.Datagram.{Datagram}
 use Rattle.coap.specs.declared.Datagram.the-variants.{Frame as Whole, Malformed, Foreign}
 use Rattle.coap.specs.declared.Frame.{Frame}
+use Rattle.decimal.specs.Ids.{held}
 use Rattle.decode.specs.Read.{groupOf}
 use Rattle.learn.specs.Learn.{learntOf, learntFrom, paddedIn}
 use Rattle.note.specs.Note.{nothingLearnt, redirectNoted, sessionNoted, reportNoted, groupAssigned, grouped, withGroup, groupNoted, validityNoted, signatureNoted, noted}
@@ -35,14 +36,15 @@ use Rattle.state.specs.declared.Assigned.{Assigned}
 use Rattle.state.specs.declared.Device.{Device}
 use Rattle.state.specs.declared.Registration.{Registration}
 use Rattle.state.specs.declared.State.{State}
-use Rattle.run.specs.Post.{posted}
+use Rattle.state.specs.declared.Waiting.{Waiting}
 use Rattle.step.specs.Step.{World}
 use Rattle.tlv.specs.Record.{Tlv, records, readable}
 use Rattle.calls.specs.Boot.{bootOf}
-use Rattle.calls.specs.Datagram.{Call, Effect, worldIn, withWorld, refusal, servedAs, served, replied, classed, received, datagramOf}
+use Rattle.calls.specs.Datagram.{Call, Effect, worldIn, withWorld, postIn, refusal, servedAs, served, replied, withWaiting, keeps, requested, classed, received, datagramOf}
 use Rattle.calls.specs.Groups.{idHeld, idAfter, ByType, Nine, GroupsByType}
 use Rattle.calls.specs.Made.{Made}
 use Rattle.calls.specs.Own.{Sending, withRegistration, sending, sendingIf, roundOf, reports, reportOf}
+use Rattle.calls.proofs.Late.{requested-by, silently}
 use Rattle.calls.proofs.AckSizes.{by-record, by-taken}
 use Rattle.calls.proofs.Sizes.{made-sized}
 use Rattle.calls.proofs.AckGroups.{from-moves}
@@ -120,15 +122,25 @@ ninth s p time made =
     from-ninth (s .device) time (sized .device) (s .registration) (s .assigned) p
     (λ _. record { registration = sized .registration; assigned = sized .assigned })
 
--- a part of the state that no record changes is left by every request
-module _ {A : Type 0} (part : State → A) (s : State) (image : List ℕ) (same : (w : World) → part (withWorld s w) ≡ part s) (c : Call) where
-  pub served-leaves : (payload ids : List ℕ) (a : Asks) → part (servedAs s image (c .store) payload (c .time) (c .verdict) ids a .state) ≡ part s
+-- a part of the state that no record changes, and no answer that is kept, is left by every request
+module _ {A : Type 0} (part : State → A) (s : State) (image : List ℕ) (same : (w : World) (x : Waiting) → part (withWaiting (withWorld s w) x) ≡ part s)
+    (c : Call) where
+  served-leaves : (payload ids : List ℕ) (a : Asks) → part (servedAs s image c payload ids a .state) ≡ part s
   unfolding servedAs
   served-leaves payload ids (Error code) = refl
-  served-leaves payload ids Posting = same (posted (s .device) (s .assigned .groups) (worldIn s image) payload (c .time) (c .verdict) .world)
+  served-leaves payload ids Posting = same (postIn s image c payload .world) (s .waiting)
   served-leaves payload ids Index = refl
   served-leaves payload ids (Record id) = refl
   served-leaves payload ids Records = refl
+
+  pub requested-leaves : (f : Frame) → part (requested s image c f (requestOf (c .bytes) f) .state) ≡ part s
+  unfolding replied served keeps
+  requested-leaves f =
+      let p = drop (f .payload) (c .bytes) in
+      requested-by (λ (e : Effect). part (e .state) ≡ part s) s image c f
+      (λ _. served-leaves p (held (requestOf (c .bytes) f .ids)) (requestOf (c .bytes) f .asks))
+      (λ _. silently (λ (e : Effect). part (e .state) ≡ part s) s image c f refl (λ _. same (postIn s image c p .world) (s .waiting))
+      (λ _. same (postIn s image c p .world) _) (same (worldIn s image) _) (λ _. same (worldIn s image) _) (λ _. same (worldIn s image) _))
 
 -- a datagram
 module _ (s : State) (image : List ℕ) (c : Call) where
@@ -139,14 +151,14 @@ module _ (s : State) (image : List ℕ) (c : Call) where
       × (x ≡ acknowledged s (f .id) (drop (f .payload) (c .bytes)) (c .time) (c .verdict)))
 
   classed-assigns : (f : Frame) → frameOf (c .bytes) ≡ Whole f → (k : Class) → classOf (f .kind) (f .code) ≡ k
-      → Assigns (classed s image (c .store) (c .bytes) f (c .time) (c .verdict) k .state)
-  unfolding classed replied served
-  classed-assigns f e Request h = inl (served-leaves (λ (x : State). x .assigned) s image (λ w. refl) c (drop (f .payload) (c .bytes)) _ (requestOf (c .bytes) f .asks))
+      → Assigns (classed s image c f k .state)
+  unfolding classed
+  classed-assigns f e Request h = inl (requested-leaves (λ (x : State). x .assigned) s image (λ w x. refl) c f)
   classed-assigns f e Acknowledgement h = inr (f, e, h, refl)
   classed-assigns f e Rejected h = inl refl
   classed-assigns f e Ignored h = inl refl
 
-  received-assigns : (m : Datagram) → frameOf (c .bytes) ≡ m → Assigns (received s image (c .store) (c .bytes) (c .time) (c .verdict) m .state)
+  received-assigns : (m : Datagram) → frameOf (c .bytes) ≡ m → Assigns (received s image c m .state)
   unfolding received
   received-assigns (Whole f) e = classed-assigns f e (classOf (f .kind) (f .code)) refl
   received-assigns (Malformed kind id) e = inl refl

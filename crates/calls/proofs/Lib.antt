@@ -4,6 +4,8 @@ pub mod Pairs
 pub mod AckSizes
 pub mod AckGroups
 pub mod AckNinth
+pub mod Late
+pub mod WaitSizes
 pub mod Sizes
 pub mod Groups
 pub mod Reports
@@ -13,4 +15,5 @@ pub mod Merges
 pub mod Copied
 pub mod OwnTexts
 pub mod Stored
+pub mod Answers
 pub mod Texts

@@ -2,13 +2,15 @@
 use Prim.Native.Nat.{ℕ}
 use mathlib.Core.Path.{_≡_, refl, sym, _∙_}
 use mathlib.Core.List.{List, [], _∷_, _++_}
-use mathlib.Core.Bool.{Bool, true, false, not, _&&_, _||_}
+use mathlib.Core.Bool.{Bool, true, false, not, _&&_, _||_, and-false, true≢false}
+use mathlib.Core.Logic.{_⊎_, inl, inr}
 use mathlib.Core.Option.{Option, none, some}
 use native.Mathlib.Omega.{arith}
 use borrow.Author.Tests.{eqb-true, eqb-false, ne-eqb}
 use lib.Dec.{eqb, ltb}
 use lib.ListN.{length, drop}
 use Rattle.buffer.proofs.Tests.{split, both, neither}
+use Rattle.buffer.specs.Listed.{listed}
 use Rattle.buffer.specs.Pick.{pick}
 use Rattle.coap.specs.Frame.{frameOf}
 use Rattle.coap.specs.declared.Datagram.{Datagram}
@@ -22,25 +24,28 @@ use Rattle.refusal.specs.Refusal.{refusalOf}
 use Rattle.registration.specs.Redirect.{isSet, followed, follow, urlIn, redirected}
 use Rattle.decimal.specs.Ids.{held}
 use Rattle.request.specs.Request.{requestOf}
+use Rattle.request.proofs.Judged.{post-asks}
 use Rattle.request.specs.declared.Asks.{Asks}
 use Rattle.request.specs.declared.Asks.the-variants.{Error, Post, Index, Record, Records}
 use Rattle.post.specs.Judge.{paddedIn}
 use Rattle.run.specs.Post.{postedAs, judgedAt, posted}
-use Rattle.run.specs.Run.{ran}
-use Rattle.step.specs.Step.{World, withFlash, blockTaken, act}
+use Rattle.run.specs.Run.{ran, anyAnswered}
+use Rattle.step.specs.Step.{World, withFlash, blockTaken, act, isRequest}
 use Rattle.state.specs.declared.Device.{Device}
 use Rattle.state.specs.declared.Registration.{Registration}
-use Rattle.tlv.specs.Record.{Tlv}
+use Rattle.tlv.specs.Record.{Tlv, records}
 use Rattle.transfer.specs.Block.{Flash, Offer, offered, putBlock, takeBlock}
 use Rattle.transfer.specs.Merge.{Merge, none as nothing, first, second, putAll, Ended}
 use Rattle.transfer.proofs.Puts.{put-hash, put-length}
 use Rattle.transfer.proofs.Merges.{merges}
 use Rattle.transfer.proofs.Ends.{ends, ends-none}
-use Rattle.class.specs.Class.{isRequest, classOf}
-use Rattle.calls.specs.Datagram.{Call, Effect, Served, refusal, worldIn, withWorld, servedPost, servedAs, served, replied, classed, received, datagramOf}
+use Rattle.class.specs.Class.{isRequest as isMethod, classOf}
+use Rattle.calls.specs.Datagram.{Call, Effect, Served, refusal, silent, worldIn, withWorld, postIn, servedPost, servedAs, served, replied, keeps, classed, received, datagramOf}
 use Rattle.calls.specs.Made.{Sized}
+use Rattle.waiting.specs.Waiting.{isFull}
+use Rattle.calls.proofs.Late.{Later, requested-by, silently}
 use Rattle.calls.proofs.Sizes.{open-counted, made-sized}
-use Rattle.calls.specs.Merge.{Kept, after, afterAll, runsJudged, runsAsked, runsClassed, runsFramed, runs, steers, anySteers, framesPost, feeds, Feed, withOffer, offers, brought, flashOf, keptWith, Demand3}
+use Rattle.calls.specs.Merge.{Kept, after, afterAll, shutOut, runsJudged, runsAsked, runsClassed, runsFramed, runs, steers, anySteers, framesPost, feeds, Feed, withOffer, offers, brought, flashOf, keptWith, Demand3, AnswersStay}
 use Rattle.class.specs.declared.Class.{Class}
 use Rattle.class.specs.declared.Class.the-variants.{Request, Acknowledgement, Rejected, Ignored}
 
@@ -134,7 +139,7 @@ fed d w (t ∷ ts) o h =
 
 -- a post is no acknowledgement
 post-class : (kind code : ℕ) → eqb code 2 ≡ true → classOf kind code ≡ Acknowledgement → ⊥
-unfolding classOf isRequest
+unfolding classOf isMethod
 post-class kind code e h = go (ltb kind 2) (rw (eqb-true code 2 e) at h)
   where
     go : (t : Bool) → pick t Request Ignored ≡ Acknowledgement → ⊥
@@ -155,58 +160,131 @@ keptIn e = record { state = e .state; image = e .image }
 abbrev keptBy : Served → Kept
 keptBy v = record { state = v .state; image = v .image }
 
+-- a record that is answered steers
+answered-steers : (t : Tlv) → isRequest (t .kind) ≡ true → steers t ≡ true
+unfolding isRequest listed steers
+answered-steers t h = go (eqb (t .kind) 65) (eqb (t .kind) 68) (eqb (t .kind) 69) (eqb (t .kind) 70) _ h
+  where
+    go : (a b c d e : Bool) → (a || (b || (c || (d || false)))) ≡ true → (a || (b || (c || (d || e)))) ≡ true
+    go true b c d e h = refl
+    go false true c d e h = refl
+    go false false true d e h = refl
+    go false false false true e h = refl
+    go false false false false e h = absurd (true≢false (sym h))
+
+any-steers : (ts : List Tlv) → anyAnswered ts ≡ true → anySteers ts ≡ true
+unfolding anyAnswered anySteers
+any-steers [] h = absurd (true≢false (sym h))
+any-steers (t ∷ ts) h = split (isRequest (t .kind)) (λ e. rw (answered-steers t e)) (λ e. go (steers t) (any-steers ts (rw e at h)))
+  where
+    go : (a : Bool) {b : Bool} → b ≡ true → (a || b) ≡ true
+    go true e = refl
+    go false e = e
+
+-- what asks for records
+abbrev isGet : Asks → Bool
+isGet (Error code) = false
+isGet Post = false
+isGet Index = true
+isGet (Record id) = true
+isGet Records = true
+
+no-get : (a : Asks) → (a ≡ Post) ⊎ ((code : ℕ) × (a ≡ Error code)) → isGet a ≡ true → ⊥
+no-get a (inl e) h = true≢false (sym (rw e at h))
+no-get a (inr (code, e)) h = true≢false (sym (rw e at h))
+
 module _ (k : Kept) (c : Call) where
+  abbrev runsAs : Bool → List ℕ → Asks → List Tlv
+  runsAs = runsAsked (k .state .device) (k .state .assigned .groups) (k .state .waiting) c
+
+  abbrev runsIn : Datagram → List Tlv
+  runsIn = runsFramed (k .state .device) (k .state .assigned .groups) (k .state .waiting) c
+
+  abbrev judgement : List ℕ → Judgement
+  judgement p = judgedAt (k .state .device) (k .state .assigned .groups) p (c .time) (c .verdict)
+
   by-judgement : (p : List ℕ) (b : Bool) (j : Judgement)
       → keptBy (servedPost (k .state) (postedAs (k .state .device) (worldIn (k .state) (k .image)) p b j)) ≡ ranIn k (runsJudged p j)
   unfolding ran postedAs
   by-judgement p b (Erring code) = refl
   by-judgement p b Run = refl
 
-  by-asks : (p ids : List ℕ) (a : Asks)
-      → keptBy (servedAs (k .state) (k .image) (c .store) p (c .time) (c .verdict) ids a) ≡ ranIn k (runsAsked (k .state .device) (k .state .assigned .groups) c p a)
-  unfolding ran servedAs posted
+  post-kept : (p : List ℕ) → keptBy (servedPost (k .state) (postIn (k .state) (k .image) c p)) ≡ ranIn k (runsJudged p (judgement p))
+  unfolding posted
+  post-kept p = by-judgement p (paddedIn p) (judgement p)
+
+  by-asks : (p ids : List ℕ) (a : Asks) → keptBy (servedAs (k .state) (k .image) c p ids a) ≡ ranIn k (runsAs false p a)
+  unfolding ran servedAs shutOut
   by-asks p ids (Error code) = refl
-  by-asks p ids Post = by-judgement p (paddedIn p) (judgedAt (k .state .device) (k .state .assigned .groups) p (c .time) (c .verdict))
+  by-asks p ids Post = post-kept p
   by-asks p ids Index = refl
   by-asks p ids (Record id) = refl
   by-asks p ids Records = refl
 
-  by-class : (f : Frame) (l : Class) → (l ≡ Acknowledgement → ⊥)
-      → keptIn (classed (k .state) (k .image) (c .store) (c .bytes) f (c .time) (c .verdict) l) ≡ ranIn k (runsClassed (k .state .device) (k .state .assigned .groups) c f l)
+  -- what a call leaves beside its answer: what its records do, and what the answers that wait hold
+  pub record FedBy (ts : List Tlv) (e : Effect) : Type 0 where
+    pub kept : keptIn e ≡ ranIn k ts
+    pub answers : e .answers ≡ c .answers
+
+  fed-none : (t : Bool) → FedBy (pick t [] []) (silent 0 (k .state) (k .image) c)
+  unfolding ran
+  fed-none true = record { kept = refl; answers = refl }
+  fed-none false = record { kept = refl; answers = refl }
+
+  -- a POST that asks for a delay: it runs as any other, or ends before step j; one that takes a place steers
+  by-later : (f : Frame) (a : Asks) → (a ≡ Post) ⊎ ((code : ℕ) × (a ≡ Error code)) → anySteers (runsAs true (drop (f .payload) (c .bytes)) a) ≡ false
+      → Later (FedBy (runsAs true (drop (f .payload) (c .bytes)) a)) (k .state) (k .image) c f a
+  unfolding shutOut keeps
+  by-later f a x n =
+      let p = drop (f .payload) (c .bytes) in
+      let w = k .state .waiting in
+      record {
+        failed = λ code e. rw e (fed-none true);
+        refused = λ e code j. rw (e, j) (fed-none (shutOut true w p));
+        shut = λ e j y z. rw (e, y, z) (fed-none true);
+        runs = λ e j m. rw (e, m, and-false (isFull w), j) (record { kept = rw j at (post-kept p); answers = refl });
+        responds = λ e j y m. absurd (true≢false (sym (any-steers (records p) y) ∙ rw (e, y, m, j) at n));
+        index = λ e. absurd (no-get a x (rw e));
+        one = λ id e. absurd (no-get a x (rw e));
+        several = λ e. absurd (no-get a x (rw e));
+      }
+
+  by-class : (f : Frame) (l : Class) → eqb (f .code) 2 ≡ true → (l ≡ Acknowledgement → ⊥)
+      → anySteers (runsClassed (k .state .device) (k .state .assigned .groups) (k .state .waiting) c f l) ≡ false
+      → FedBy (runsClassed (k .state .device) (k .state .assigned .groups) (k .state .waiting) c f l) (classed (k .state) (k .image) c f l)
   unfolding ran classed replied served
-  by-class f Request h = by-asks (drop (f .payload) (c .bytes)) (held (requestOf (c .bytes) f .ids)) (requestOf (c .bytes) f .asks)
-  by-class f Acknowledgement h = absurd (h refl)
-  by-class f Rejected h = refl
-  by-class f Ignored h = refl
+  by-class f Request e h n =
+      let r = requestOf (c .bytes) f in
+      let p = drop (f .payload) (c .bytes) in
+      requested-by (FedBy (runsAs (r .delayed) p (r .asks))) (k .state) (k .image) c f
+      (λ d. record { kept = rw d (by-asks p (held (r .ids)) (r .asks)); answers = refl })
+      (λ d. rw d (by-later f (r .asks) (post-asks (c .bytes) f (eqb-true (f .code) 2 e)) (rw d at n)))
+  by-class f Acknowledgement e h n = absurd (h refl)
+  by-class f Rejected e h n = record { kept = refl; answers = refl }
+  by-class f Ignored e h n = record { kept = refl; answers = refl }
 
   -- a frame that can be read is not refused
-  whole-outcome : (f : Frame) (l : Class) → classed (k .state) (k .image) (c .store) (c .bytes) f (c .time) (c .verdict) l .outcome ≡ 0
-  unfolding classed replied
-  whole-outcome f Request = refl
+  whole-outcome : (f : Frame) (l : Class) → classed (k .state) (k .image) c f l .outcome ≡ 0
+  unfolding classed replied keeps
+  whole-outcome f Request =
+      requested-by (λ (e : Effect). e .outcome ≡ 0) (k .state) (k .image) c f (λ _. refl)
+      (λ _. silently (λ (e : Effect). e .outcome ≡ 0) (k .state) (k .image) c f refl (λ _. refl) (λ _. refl) refl (λ _. refl) (λ _. refl))
   whole-outcome f Acknowledgement = refl
   whole-outcome f Rejected = refl
   whole-outcome f Ignored = refl
 
   by-frame : (m : Datagram) (b : Bool)
-      → (not (eqb (received (k .state) (k .image) (c .store) (c .bytes) (c .time) (c .verdict) m .outcome) 0) || (framesPost m && b)) ≡ true
-      → keptIn (received (k .state) (k .image) (c .store) (c .bytes) (c .time) (c .verdict) m) ≡ ranIn k (runsFramed (k .state .device) (k .state .assigned .groups) c m)
+      → (not (eqb (received (k .state) (k .image) c m .outcome) 0) || (framesPost m && b)) ≡ true → anySteers (runsIn m) ≡ false
+      → FedBy (runsIn m) (received (k .state) (k .image) c m)
   unfolding ran received
-  by-frame (Whole f) b h =
+  by-frame (Whole f) b h n =
       let t = both (eqb (f .code) 2) b (rw (whole-outcome f (classOf (f .kind) (f .code))) at h) in
-      by-class f (classOf (f .kind) (f .code)) (post-class (f .kind) (f .code) (t .0))
-  by-frame (Malformed kind id) b h = refl
-  by-frame Foreign b h = refl
-
-  after-runs : feeds k c ≡ true → after k c ≡ ranIn k (runs k c)
-  unfolding ran datagramOf runs feeds
-  after-runs h =
-      split (eqb (refusal (k .state) (k .image) c) 0)
-      (λ e. rw e (by-frame (frameOf (c .bytes)) _ (rw e at h)))
-      (λ e. rw e)
+      by-class f (classOf (f .kind) (f .code)) (t .0) (post-class (f .kind) (f .code) (t .0)) n
+  by-frame (Malformed kind id) b h n = record { kept = refl; answers = refl }
+  by-frame Foreign b h n = record { kept = refl; answers = refl }
 
   -- a refused call runs nothing
-  refused-frame : (m : Datagram) → eqb (received (k .state) (k .image) (c .store) (c .bytes) (c .time) (c .verdict) m .outcome) 0 ≡ false
-      → runsFramed (k .state .device) (k .state .assigned .groups) c m ≡ []
+  refused-frame : (m : Datagram) → eqb (received (k .state) (k .image) c m .outcome) 0 ≡ false → runsIn m ≡ []
   unfolding received
   refused-frame (Whole f) h =
       let z : _≡_ {A = ℕ} 0 1 = absurd (eqb-false _ 0 h (whole-outcome f (classOf (f .kind) (f .code)))) in absurd (omega arith)
@@ -234,6 +312,17 @@ module _ (k : Kept) (c : Call) where
       go false true h = let z : _≡_ {A = ℕ} 0 1 = cc in absurd (omega arith)
       go a false h = refl
 
+  fed-by : feeds k c ≡ true → FedBy (runs k c) (datagramOf (k .state) (k .image) c)
+  unfolding ran datagramOf runs feeds
+  fed-by h =
+      let n = steady h in
+      split (eqb (refusal (k .state) (k .image) c) 0)
+      (λ e. rw e (by-frame (frameOf (c .bytes)) _ (rw e at h) (rw e at n)))
+      (λ e. rw e (record { kept = refl; answers = refl }))
+
+  after-runs : feeds k c ≡ true → after k c ≡ ranIn k (runs k c)
+  after-runs h = fed-by h .kept
+
 -- what a call runs goes by parts that no feed changes
 module _ (k : Kept) (o : k .state .images .«open» ≡ true) where
   runs-same : (f : Flash) (c : Call) → length (f .bytes) ≡ length (k .image) → runs (keptWith k f) c ≡ runs k c
@@ -242,7 +331,7 @@ module _ (k : Kept) (o : k .state .images .«open» ≡ true) where
 
   -- and so does whether it is one of a feed
   outcome-frame : (f : Flash) (c : Call) (m : Datagram)
-      → received (keptWith k f .state) (f .bytes) (c .store) (c .bytes) (c .time) (c .verdict) m .outcome ≡ received (k .state) (k .image) (c .store) (c .bytes) (c .time) (c .verdict) m .outcome
+      → received (keptWith k f .state) (f .bytes) c m .outcome ≡ received (k .state) (k .image) c m .outcome
   unfolding received
   outcome-frame f c (Whole g) = whole-outcome (keptWith k f) c g (classOf (g .kind) (g .code)) ∙ sym (whole-outcome k c g (classOf (g .kind) (g .code)))
   outcome-frame f c (Malformed kind id) = refl
@@ -294,6 +383,11 @@ module _ (k : Kept) (o : k .state .images .«open» ≡ true) where
   merge-feed (first m) a b = (a .0, merge-feed m (a .1) b)
   merge-feed (second m) a b = (b .0, merge-feed m a (b .1))
 
+  -- the calls before one of a feed are a feed, and that one feeds
+  feed-front : (xs : List Call) (c : Call) (ys : List Call) → Feed k (xs ++ (c ∷ ys)) → Feed k xs × (feeds k c ≡ true)
+  feed-front [] c ys h = (tt, h .0)
+  feed-front (x ∷ xs) c ys h = let r = feed-front xs c ys (h .1) in ((h .0, r .0), r .1)
+
   -- where the image buffer has not the setup length, every call is refused
   none-brought : (cs : List Call) → (length (k .image) ≡ k .state .device .«image_len» → ⊥) → brought k cs ≡ []
   unfolding brought runs refusal refusalOf offers
@@ -328,3 +422,10 @@ demand-3 k xs ys zs m o a b z g =
       blocks = rw ez (ended k zs (made-sized (k .state) m) o);
       rest = rw ez;
     }
+
+pub answers-stay : AnswersStay
+answers-stay k xs c ys o h =
+    let p = feed-front k o xs c ys h in
+    let F : Flash = putAll (brought k xs) (flashOf k) in
+    let e : afterAll xs k ≡ keptWith k F = fed-all k o xs (flashOf k) refl refl (p .0) in
+    rw e (fed-by (keptWith k F) c (feeds-same k o F c (puts-length (brought k xs) (flashOf k)) ∙ p .1) .answers)

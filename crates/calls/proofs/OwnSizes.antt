@@ -36,7 +36,7 @@ doubled-between low i high h = go (ltb (i .0 * 2) (high .0)) refl
         (omega arith, omega arith)
 
 module _ (d : Device) (r : Registration) (k : RegistrationSized d r) where
-  taken-sized : RegistrationSized d (idTaken r)
+  pub taken-sized : RegistrationSized d (idTaken r)
   unfolding idTaken
   taken-sized = record { url = k .url; text = k .text; interval = k .interval }
 
@@ -49,7 +49,7 @@ module _ (s : State) (k : Sized s) (r : Registration) (z : RegistrationSized (s 
   sending-sized : (bs : List ℕ) → Sized (sending s r bs .state)
   unfolding sending
   sending-sized [] = k
-  sending-sized (b ∷ bs) = record { device = k .device; images = k .images; assigned = k .assigned; registration = z }
+  sending-sized (b ∷ bs) = record { device = k .device; images = k .images; assigned = k .assigned; registration = z; waiting = k .waiting }
 
   sent-sized : (n : ℕ) (bs : List ℕ) → Sized (sendingIf s r n bs .state)
   sent-sized n bs = go (eqb n 0)

@@ -32,11 +32,12 @@ use Rattle.state.specs.declared.State.{State}
 use Rattle.state.specs.declared.setup.Settings.{Settings}
 use Rattle.step.specs.Step.{World}
 use Rattle.calls.specs.Boot.{bootOf}
-use Rattle.calls.specs.Datagram.{Call, Effect, worldIn, refusal, servedAs, served, replied, classed, received, datagramOf}
+use Rattle.calls.specs.Datagram.{Call, Effect, worldIn, refusal, postIn, servedAs, served, replied, keeps, classed, received, datagramOf}
 use Rattle.calls.specs.Own.{roundOf, reports, reportOf}
 use Rattle.calls.specs.Padded.{postedBefore, SamePost, ReadingsStand, PaddingRefused}
 use Rattle.calls.proofs.AckSizes.{by-taken}
-use Rattle.calls.proofs.Groups.{served-leaves, own-leaves}
+use Rattle.calls.proofs.Groups.{requested-leaves, own-leaves}
+use Rattle.calls.proofs.Late.{requested-by, silently}
 
 -- what a judgement leads to does not go by padding
 same-post : (d : Device) (w : World) (p : List ℕ) (a b : Bool) (j : Judgement) → SamePost (postedAs d w p a j) (postedAs d w p b j)
@@ -63,15 +64,15 @@ module _ (s : State) (image : List ℕ) (c : Call) where
   abbrev Device-kept : Effect → Type 0
   Device-kept e = e .state .device ≡ s .device
 
-  classed-keeps : (f : Frame) (k : Class) → Device-kept (classed s image (c .store) (c .bytes) f (c .time) (c .verdict) k)
-  unfolding classed replied served acceptedBy
-  classed-keeps f Request = served-leaves (λ (x : State). x .device) s image (λ w. refl) c (drop (f .payload) (c .bytes)) _ (requestOf (c .bytes) f .asks)
+  classed-keeps : (f : Frame) (k : Class) → Device-kept (classed s image c f k)
+  unfolding classed acceptedBy
+  classed-keeps f Request = requested-leaves (λ (x : State). x .device) s image (λ w x. refl) c f
   classed-keeps f Acknowledgement =
       by-taken s (f .id) (drop (f .payload) (c .bytes)) (c .time) (c .verdict) (λ (x : State). x .device ≡ s .device) refl (λ _. refl) (λ _ _. refl)
   classed-keeps f Rejected = refl
   classed-keeps f Ignored = refl
 
-  received-keeps : (m : Datagram) → Device-kept (received s image (c .store) (c .bytes) (c .time) (c .verdict) m)
+  received-keeps : (m : Datagram) → Device-kept (received s image c m)
   unfolding received
   received-keeps (Whole f) = classed-keeps f (classOf (f .kind) (f .code))
   received-keeps (Malformed kind id) = refl
@@ -100,18 +101,24 @@ module _ (s : State) (image : List ℕ) (c : Call) (h : s .device .«refuse_padd
   abbrev Never : Effect → Type 0
   Never e = e .padded ≡ false
 
-  served-never : (payload ids : List ℕ) (a : Asks) → servedAs s image (c .store) payload (c .time) (c .verdict) ids a .padded ≡ false
-  unfolding servedAs posted judgedAt judgedAs
+  post-never : (payload : List ℕ) → postIn s image c payload .padded ≡ false
+  unfolding posted judgedAt judgedAs
+  post-never payload = posted-never (s .device) (worldIn s image) payload (s .device .«refuse_padding») (paddedIn payload) _ h
+
+  served-never : (payload ids : List ℕ) (a : Asks) → servedAs s image c payload ids a .padded ≡ false
+  unfolding servedAs
   served-never payload ids (Error code) = refl
-  served-never payload ids Posting =
-      posted-never (s .device) (worldIn s image) payload (s .device .«refuse_padding») (paddedIn payload) _ h
+  served-never payload ids Posting = post-never payload
   served-never payload ids Index = refl
   served-never payload ids (Record id) = refl
   served-never payload ids Records = refl
 
-  classed-never : (f : Frame) (k : Class) → Never (classed s image (c .store) (c .bytes) f (c .time) (c .verdict) k)
-  unfolding classed replied served takenPadded
-  classed-never f Request = served-never (drop (f .payload) (c .bytes)) _ (requestOf (c .bytes) f .asks)
+  classed-never : (f : Frame) (k : Class) → Never (classed s image c f k)
+  unfolding classed replied served keeps takenPadded
+  classed-never f Request =
+      let p = drop (f .payload) (c .bytes) in
+      requested-by Never s image c f (λ _. served-never p _ (requestOf (c .bytes) f .asks))
+      (λ _. silently Never s image c f refl (λ _. post-never p) (λ _. post-never p) refl (λ _. refl) (λ _. refl))
   classed-never f Acknowledgement =
       let p = drop (f .payload) (c .bytes) in
       taken-never (s .device .«refuse_padding») (isAwaited (s .registration) (f .id))
@@ -119,7 +126,7 @@ module _ (s : State) (image : List ℕ) (c : Call) (h : s .device .«refuse_padd
   classed-never f Rejected = refl
   classed-never f Ignored = refl
 
-  received-never : (m : Datagram) → Never (received s image (c .store) (c .bytes) (c .time) (c .verdict) m)
+  received-never : (m : Datagram) → Never (received s image c m)
   unfolding received
   received-never (Whole f) = classed-never f (classOf (f .kind) (f .code))
   received-never (Malformed kind id) = refl

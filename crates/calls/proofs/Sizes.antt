@@ -61,13 +61,16 @@ use Rattle.transfer.proofs.Counts.{ones-none, counted-put}
 use Rattle.transfer.proofs.Marks.{length-marked, held-none}
 use Rattle.transfer.proofs.Puts.{put-cases}
 use Rattle.utf8.specs.Utf8.{IsText}
+use Rattle.waiting.proofs.Sizes.{none-sized}
 use Rattle.calls.specs.Boot.{bootOf}
 use Rattle.class.specs.Class.{classOf}
-use Rattle.calls.specs.Datagram.{Call, Effect, worldIn, refusal, servedAs, served, replied, classed, received, datagramOf}
+use Rattle.calls.specs.Datagram.{Call, Effect, worldIn, withWorld, postIn, refusal, servedAs, served, replied, classed, received, datagramOf}
 use Rattle.calls.specs.Padding.{refusingPadding}
-use Rattle.calls.specs.Made.{Made, set, called, rounded, reported, booted as reborn, padding, Between, DeviceSized, OpenSized, ImagesSized, RegistrationSized, Sized, MadeSized}
+use Rattle.calls.specs.Made.{Made, set, called, rounded, reported, booted as reborn, padding, due, Between, DeviceSized, OpenSized, ImagesSized, RegistrationSized, Sized, MadeSized}
 use Rattle.calls.proofs.TextLaws.{none-text, short-text, name-held, version-held, Named, name-text, version-text}
+use Rattle.calls.proofs.Late.{Later, requested-by, silently}
 use Rattle.calls.proofs.OwnSizes.{round-sized, report-sized}
+use Rattle.calls.proofs.WaitSizes.{keeps-sized, body-short, ids-fit, answer-sized}
 use Rattle.calls.proofs.AckSizes.{redirect-sized, acknowledged-sized}
 use Rattle.class.specs.declared.Class.{Class}
 use Rattle.class.specs.declared.Class.the-variants.{Request, Acknowledgement, Rejected, Ignored}
@@ -123,6 +126,7 @@ module _ (hw vendor running url : List ℕ) (s : Settings) where
               each = tt;
             };
         registration = record { url = within-told 1 (length url) 128 (c .1); text = inl refl; interval = (omega arith, up) };
+        waiting = none-sized;
       }
 
   setup-sized : setupOf hw vendor running url s .outcome ≡ 0 → Sized (setupOf hw vendor running url s .state)
@@ -390,34 +394,51 @@ module _ (s : State) (image : List ℕ) (sized : Sized s) where
   pub world-sized : WorldSized (s .device) (worldIn s image)
   world-sized = record { images = sized .images; registration = sized .registration }
 
-  served-sized : (store payload : List ℕ) (time : Point) (verdict : ℕ) (ids : List ℕ) (asks : Asks) → Sized (servedAs s image store payload time verdict ids asks .state)
-  unfolding servedAs
-  served-sized store payload time verdict ids (Error code) = sized
-  served-sized store payload time verdict ids Posting =
-      let w = posted-sized (s .device) (s .assigned .groups) (worldIn s image) payload time verdict (sized .device) world-sized in
-      record { device = sized .device; images = w .images; assigned = sized .assigned; registration = w .registration }
-  served-sized store payload time verdict ids Index = sized
-  served-sized store payload time verdict ids (Record id) = sized
-  served-sized store payload time verdict ids Records = sized
+  module _ (c : Call) where
+    post-sized : (payload : List ℕ) → Sized (withWorld s (postIn s image c payload .world))
+    post-sized payload =
+        let w = posted-sized (s .device) (s .assigned .groups) (worldIn s image) payload (c .time) (c .verdict) (sized .device) world-sized in
+        record { device = sized .device; images = w .images; assigned = sized .assigned; registration = w .registration; waiting = sized .waiting }
 
-  classed-sized : (store bytes : List ℕ) (f : Frame) (time : Point) (verdict : ℕ) (c : Class) → Sized (classed s image store bytes f time verdict c .state)
-  unfolding classed replied served
-  classed-sized store bytes f time verdict Request = served-sized store (drop (f .payload) bytes) time verdict (listed (requestOf bytes f .ids)) (requestOf bytes f .asks)
-  classed-sized store bytes f time verdict Acknowledgement = acknowledged-sized s sized (f .id) (drop (f .payload) bytes) time verdict
-  classed-sized store bytes f time verdict Rejected = sized
-  classed-sized store bytes f time verdict Ignored = sized
+    served-sized : (payload ids : List ℕ) (asks : Asks) → Sized (servedAs s image c payload ids asks .state)
+    unfolding servedAs
+    served-sized payload ids (Error code) = sized
+    served-sized payload ids Posting = post-sized payload
+    served-sized payload ids Index = sized
+    served-sized payload ids (Record id) = sized
+    served-sized payload ids Records = sized
 
-  received-sized : (store bytes : List ℕ) (time : Point) (verdict : ℕ) (r : Datagram) → Sized (received s image store bytes time verdict r .state)
-  unfolding received
-  received-sized store bytes time verdict Foreign = sized
-  received-sized store bytes time verdict (Malformed kind id) = sized
-  received-sized store bytes time verdict (Whole f) = classed-sized store bytes f time verdict (classOf (f .kind) (f .code))
+    abbrev Leaves : Effect → Type 0
+    Leaves e = Sized (e .state)
 
-  datagram-sized : (c : Call) → Sized (datagramOf s image c .state)
-  unfolding datagramOf
-  datagram-sized c =
-      pick-both (λ (e : Effect). Sized (e .state)) (eqb (refusal s image c) 0) _ _
-      (λ h. received-sized (c .store) (c .bytes) (c .time) (c .verdict) (frameOf (c .bytes))) (λ h. sized)
+    later-sized : (f : Frame) → Later Leaves s image c f (requestOf (c .bytes) f .asks)
+    later-sized f =
+        let p = drop (f .payload) (c .bytes) in
+        silently Leaves s image c f sized (λ j. post-sized p)
+        (λ j. keeps-sized (withWorld s (postIn s image c p .world)) (post-sized p) _ c f _ _ _ (body-short s image c p j))
+        (keeps-sized s sized image c f _ [] false (omega arith))
+        (λ id. keeps-sized s sized image c f _ [] false (omega arith))
+        (λ e. keeps-sized s sized image c f _ _ false (ids-fit (c .bytes) f e))
+
+    classed-sized : (f : Frame) (k : Class) → Sized (classed s image c f k .state)
+    unfolding classed replied served
+    classed-sized f Request =
+        requested-by Leaves s image c f
+        (λ n. served-sized (drop (f .payload) (c .bytes)) (listed (requestOf (c .bytes) f .ids)) (requestOf (c .bytes) f .asks))
+        (λ d. later-sized f)
+    classed-sized f Acknowledgement = acknowledged-sized s sized (f .id) (drop (f .payload) (c .bytes)) (c .time) (c .verdict)
+    classed-sized f Rejected = sized
+    classed-sized f Ignored = sized
+
+    received-sized : (r : Datagram) → Sized (received s image c r .state)
+    unfolding received
+    received-sized Foreign = sized
+    received-sized (Malformed kind id) = sized
+    received-sized (Whole f) = classed-sized f (classOf (f .kind) (f .code))
+
+    datagram-sized : Sized (datagramOf s image c .state)
+    unfolding datagramOf
+    datagram-sized = pick-both Leaves (eqb (refusal s image c) 0) _ _ (λ h. received-sized (frameOf (c .bytes))) (λ h. sized)
 
 boot-images-sized : (d : Device) (i : Images) → ImagesSized d i → ImagesSized d (booted i)
 unfolding booted
@@ -442,6 +463,7 @@ boot-sized s k =
       images = boot-images-sized (s .device) (s .images) (k .images);
       assigned = k .assigned;
       registration = record { url = k .device .home; text = inl refl; interval = (omega arith, k .device .low .1) };
+      waiting = k .waiting;
     }
 
 -- what is promised of sizes does not go by padding
@@ -466,6 +488,7 @@ refusing-sized s on k =
           };
       assigned = k .assigned;
       registration = record { url = k .registration .url; text = k .registration .text; interval = k .registration .interval };
+      waiting = k .waiting;
     }
 
 made : {s : State} → Made s → Sized s
@@ -475,6 +498,7 @@ made (rounded {s} m out store time) = round-sized s out store time (made m)
 made (reported {s} m out store time which) = report-sized s out store time which (made m)
 made (reborn {s} m) = boot-sized s (made m)
 made (padding {s} m on) = refusing-sized s on (made m)
+made (due {s} m answers out store time) = answer-sized s answers out store time (made m)
 
 pub made-sized : MadeSized
 made-sized s m = made m

@@ -1,6 +1,6 @@
 -- What `specs/Text.antt` states.
 use Prim.Native.Nat.{ℕ}
-use mathlib.Core.Path.{_≡_, refl, subst}
+use mathlib.Core.Path.{_≡_, refl, sym, subst}
 use mathlib.Core.List.{List, [], _∷_, _++_, map}
 use mathlib.Core.Bool.{Bool, true, not}
 use mathlib.Core.Option.{some}
@@ -23,12 +23,12 @@ use Rattle.csmp.specs.Tables.{response as responseTable}
 use Rattle.csmp.specs.Values.{momentNumber}
 use Rattle.csmp.specs.declared.Hash.{Hash}
 use Rattle.decimal.specs.Decimal.{decimal}
-use Rattle.decimal.specs.Ids.{held}
+use Rattle.decimal.specs.Ids.{noIds, held}
 use Rattle.encode.specs.Write.{sessionRecord}
 use Rattle.encode_image.specs.Write.{responseRecord}
 use Rattle.get.specs.Get.{Content, content, indexGot, recordGot, recordsGot}
 use Rattle.index.specs.Index.{idsThere}
-use Rattle.outgoing.specs.Sent.{sendable, sessionShown, deviceId, knownTo, registrationSent, reportSent}
+use Rattle.outgoing.specs.Sent.{sendable, sessionShown, deviceId, knownTo, registrationSent, reportSent, headOf, answerSent}
 use Rattle.own.specs.Own.{ownRecords}
 use Rattle.post.specs.declared.Judgement.{Judgement}
 use Rattle.post.specs.declared.Judgement.the-variants.{Error as Erring, Run}
@@ -37,6 +37,7 @@ use Rattle.protobuf.specs.Write.{ifAny}
 use Rattle.refusal.specs.Refusal.{refusalOf, ownRefusal}
 use Rattle.registration.specs.Round.{idTaken, roundTaken}
 use Rattle.reply.specs.Reply.{replyTo, resetTo}
+use Rattle.request.specs.Options.{parts, askedOf}
 use Rattle.request.specs.Request.{requestOf}
 use Rattle.request.specs.declared.Asks.{Asks}
 use Rattle.request.specs.declared.Asks.the-variants.{Error, Post as Posting, Index, Record, Records}
@@ -47,20 +48,29 @@ use Rattle.schedule.specs.declared.Moment.the-variants.{Absent as Never}
 use Rattle.schedule.specs.declared.Point.{Point}
 use Rattle.state.specs.Groups.{heldPairs}
 use Rattle.state.specs.declared.Assigned.{Assigned}
+use Rattle.state.specs.declared.Delayed.{Delayed}
 use Rattle.state.specs.declared.Device.{Device}
 use Rattle.state.specs.declared.Registration.{Registration}
 use Rattle.state.specs.declared.State.{State}
+use Rattle.state.specs.declared.What.{What}
+use Rattle.state.specs.declared.What.the-variants.{Index as AnIndex, Record as ARecord, Records as SomeRecords, Responses}
 use Rattle.step.specs.Step.{World, act, response}
 use Rattle.store.specs.Store.{acceptable}
 use Rattle.tables.specs.Statements.{Texts}
 use Rattle.tables.specs.Table.{Table, Values, written as rowWritten, writeBy}
 use Rattle.tlv.specs.Record.{Tlv, records, recordBytes}
-use Rattle.calls.specs.Datagram.{Call, Effect, worldIn, refusal, servedAs, served, replied, classed, received, datagramOf}
+use Rattle.waiting.proofs.Theorems.{takes-earliest}
+use Rattle.waiting.specs.Waiting.{heldIn, dueOf}
+use Rattle.calls.specs.Answers.{Lent, FromRun}
+use Rattle.calls.specs.Datagram.{Call, Effect, worldIn, refusal, servedAs, served, replied, withWaiting, keeps, classed, received, datagramOf}
+use Rattle.calls.specs.Due.{Dispatch, recordsOf, dispatched, datagramFor, dispatchOf, answerDue}
 use Rattle.calls.specs.Made.{AssignedSized, Sized}
 use Rattle.calls.specs.Own.{Sending, sending, sendingIf, roundOf, reports, reportOf}
 use Rattle.calls.specs.Text.{tableOf, Carries, nothing, copied, written, both, Replies, silent, resets, answers}
 use Rattle.calls.specs.Text.{Sends, unsent, sent, TextOnly}
+use Rattle.calls.proofs.Answers.{answers-held}
 use Rattle.calls.proofs.Copied.{own-carries, shown-carries, all-shown-carry}
+use Rattle.calls.proofs.Late.{requested-by, silently}
 use Rattle.calls.proofs.Sizes.{made-sized}
 use Rattle.calls.proofs.Stored.{stored-other}
 use Rattle.calls.proofs.OwnTexts.{report-own, time-own, groups-own, records-own, index-texts}
@@ -124,15 +134,9 @@ module _ (store : List ℕ) where
         pick-both (λ (c : Content). Carries store (c .body)) (eqb (length (shownOf store (ownRecords s time) id)) 0) _ _
         (λ _. nothing) (λ _. content-carries (shown-carries store ok (records-own s time k) id))
 
-    served-carries : (image payload : List ℕ) (time : Point) (verdict : ℕ) (ids : List ℕ) (a : Asks)
-        → Carries store (servedAs s image store payload time verdict ids a .body)
-    unfolding servedAs posted recordsGot
-    served-carries image payload time verdict ids (Error code) = nothing
-    served-carries image payload time verdict ids Posting =
-        posted-carries (s .device) (worldIn s image) payload _ (judgedAt (s .device) (s .assigned .groups) payload time verdict)
-    served-carries image payload time verdict ids Index = index-carries time
-    served-carries image payload time verdict ids (Record id) = record-carries time id
-    served-carries image payload time verdict ids Records = content-carries (all-shown-carry store ok (records-own s time k) ids)
+    records-carry : (time : Point) (ids : List ℕ) → Carries store (recordsGot s store time ids .body)
+    unfolding recordsGot
+    records-carry time ids = content-carries (all-shown-carry store ok (records-own s time k) ids)
 
     -- what a registration tells
     known-carries : (time : Point) → Carries store (knownTo s store time)
@@ -167,18 +171,29 @@ module _ (s : State) (image : List ℕ) (c : Call) (k : Sized s) where
   abbrev Replied : Effect → Type 0
   Replied e = Replies (c .store) (e .reply)
 
-  classed-replies : acceptable (c .store) ≡ true → (f : Frame) (x : Class) → Replied (classed s image (c .store) (c .bytes) f (c .time) (c .verdict) x)
-  unfolding classed replied served replyTo
+  served-carries : acceptable (c .store) ≡ true → (payload ids : List ℕ) (a : Asks) → Carries (c .store) (servedAs s image c payload ids a .body)
+  unfolding servedAs posted
+  served-carries ok payload ids (Error code) = nothing
+  served-carries ok payload ids Posting =
+      posted-carries (c .store) (s .device) (worldIn s image) payload _ (judgedAt (s .device) (s .assigned .groups) payload (c .time) (c .verdict))
+  served-carries ok payload ids Index = index-carries (c .store) ok s k (c .time)
+  served-carries ok payload ids (Record id) = record-carries (c .store) ok s k (c .time) id
+  served-carries ok payload ids Records = records-carry (c .store) ok s k (c .time) ids
+
+  classed-replies : acceptable (c .store) ≡ true → (f : Frame) (x : Class) → Replied (classed s image c f x)
+  unfolding classed replied served replyTo keeps
   classed-replies ok f Request =
       let r = requestOf (c .bytes) f in
-      pick-both (Replies (c .store)) (eqb (f .kind) 0) _ _
-      (λ _. answers _ (f .id) (served-carries (c .store) ok s k image (drop (f .payload) (c .bytes)) (c .time) (c .verdict) (held (r .ids)) (r .asks)))
-      (λ _. silent)
+      requested-by Replied s image c f
+      (λ _. pick-both (Replies (c .store)) (eqb (f .kind) 0) _ _
+      (λ _. answers _ (f .id) (served-carries ok (drop (f .payload) (c .bytes)) (held (r .ids)) (r .asks)))
+      (λ _. silent))
+      (λ _. silently Replied s image c f silent (λ _. silent) (λ _. silent) silent (λ _. silent) (λ _. silent))
   classed-replies ok f Acknowledgement = silent
   classed-replies ok f Rejected = resets (f .id)
   classed-replies ok f Ignored = silent
 
-  received-replies : acceptable (c .store) ≡ true → (m : Datagram) → Replied (received s image (c .store) (c .bytes) (c .time) (c .verdict) m)
+  received-replies : acceptable (c .store) ≡ true → (m : Datagram) → Replied (received s image c m)
   unfolding received resetTo
   received-replies ok (Whole f) = classed-replies ok f (classOf (f .kind) (f .code))
   received-replies ok (Malformed kind id) = pick-both (Replies (c .store)) (eqb kind 0) _ _ (λ _. resets id) (λ _. silent)
@@ -221,6 +236,55 @@ module _ (s : State) (k : Sized s) (store : List ℕ) (time : Point) (ok : accep
       (both (session-carries store (s .assigned) (k .assigned))
       (both (own-carries store (time-own time)) (all-shown-carry store ok (records-own s time k) (held (s .assigned .ids)))))
 
+  -- the records of a delayed answer: what a GET shows now, or responses that were kept
+  kept-carry : (bytes : List ℕ) (what : What) → (what ≡ Responses → FromRun bytes) → Carries store (recordsOf s store time bytes what)
+  unfolding recordsOf
+  kept-carry bytes AnIndex r = index-carries store ok s k time
+  kept-carry bytes (ARecord id) r = record-carries store ok s k time id
+  kept-carry bytes SomeRecords r = records-carry store ok s k time (held (askedOf noIds (parts bytes)))
+  kept-carry bytes Responses r = let x = r refl in subst (Carries store) (sym (x .3)) (responses-carry store (x .0) (x .1) (x .2))
+
+  answer-sends : (named : Bool) (rs : List ℕ) → Carries store rs → Sends store (headOf named (s .registration .«message_id»)) (answerSent s time named rs)
+  unfolding answerSent
+  answer-sends named rs c =
+      let head = headOf named (s .registration .«message_id») in
+      pick-both (Sends store head) (s .assigned .«in_session») _ _
+      (λ _. pick-both (Sends store head) (eqb (length rs) 0) _ _ (λ _. unsent)
+      (λ _. sendable-sends store head (both (session-carries store (s .assigned) (k .assigned)) (both (own-carries store (time-own time)) c))))
+      (λ _. unsent)
+
+-- the answer that is due holds what was kept for it
+due-runs : (s : State) (buffer : List ℕ) (time : Point) → Lent s buffer → dueOf (s .waiting) time .is ≡ true
+    → dueOf (s .waiting) time .answer .what ≡ Responses → FromRun (heldIn (dueOf (s .waiting) time .answer) buffer)
+due-runs s buffer time l t =
+    let k = made-sized s (answers-held .made s buffer l) .waiting in
+    let x = takes-earliest .one (s .waiting) time (k .list) (k .count) t in
+    subst (λ (d : Delayed). d .what ≡ Responses → FromRun (heldIn d buffer)) (sym (x .1 .answer)) (answers-held .responses s buffer l (x .0) (x .1 .held))
+
+dispatched-sends : (store head : List ℕ) (s : State) (url bs : List ℕ) → Sends store head bs → Sends store head (dispatched s url bs .sent)
+unfolding dispatched
+dispatched-sends store head s url [] k = k
+dispatched-sends store head s url (b ∷ bs) k = k
+
+due-sends : (s : State) (buffer : List ℕ) (out : ℕ) (store : List ℕ) (time : Point) → Lent s buffer
+    → (named : Bool) × Sends store (headOf named (s .registration .«message_id»)) (answerDue s buffer out store time .sent)
+unfolding answerDue dispatchOf datagramFor
+due-sends s buffer out store time l =
+    let d = dueOf (s .waiting) time in
+    let named = not (eqb (d .answer .url) 0) in
+    let head = headOf named (s .registration .«message_id») in
+    let k = made-sized s (answers-held .made s buffer l) in
+    let P : Dispatch → Type 0 = λ x. Sends store head (x .sent) in (
+      named,
+      pick-both P (eqb (ownRefusal out store true 0) 0) _ _
+          (λ e. let ok = own-acceptable out store true 0 (eqb-true _ 0 e) in
+          pick-both P (d .is) _ _
+          (λ t. dispatched-sends store head (withWaiting s (d .left)) _ _
+          (answer-sends s k store time ok named _ (kept-carry s k store time ok (heldIn (d .answer) buffer) (d .answer .what) (due-runs s buffer time l t))))
+          (λ _. unsent))
+          (λ _. unsent),
+    )
+
 pub text-only : TextOnly
 unfolding roundOf reportOf
 text-only =
@@ -237,4 +301,5 @@ text-only =
           call-sends store (reportHead (s .registration .«message_id»)) s (idTaken (s .registration))
           (ownRefusal out store (reports s which) 9) _
           (λ e. report-sends s (made-sized s m) store time (own-acceptable out store (reports s which) 9 e));
+      dispatched = due-sends;
     }

@@ -12,4 +12,5 @@ bootOf s =
       images = booted (s .images);
       assigned = s .assigned;
       registration = restarted (s .device) (s .registration) (s .device .home) false;
+      waiting = s .waiting;
     }

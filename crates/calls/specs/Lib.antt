@@ -1,5 +1,6 @@
 pub mod Datagram
 pub mod Own
+pub mod Due
 pub mod Boot
 pub mod Padding
 pub mod Made
@@ -8,4 +9,5 @@ pub mod Report
 pub mod Padded
 pub mod Complete
 pub mod Merge
+pub mod Answers
 pub mod Text

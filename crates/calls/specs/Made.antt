@@ -1,4 +1,4 @@
--- The states that setup and calls make, and what document 01, "Sizes", and document 02, Q-2, Q-3 and Q-5, promise of them; padding refused or not, Q-8.
+-- The states that setup and calls make, and what document 01, "Sizes", and document 02, Q-1, Q-2, Q-3 and Q-5, promise of them; padding refused or not, Q-8.
 use Prim.Native.Nat.{ℕ, _≤_}
 use mathlib.Core.Path.{_≡_}
 use mathlib.Core.List.{List}
@@ -22,8 +22,10 @@ use Rattle.state.specs.declared.setup.Settings.{Settings}
 use Rattle.transfer.specs.Bitmap.{held, CountsOnes}
 use Rattle.transfer.specs.Blocks.{blocks}
 use Rattle.utf8.specs.Utf8.{IsText}
+use Rattle.waiting.specs.Sized.{WaitingSized}
 use Rattle.calls.specs.Boot.{bootOf}
 use Rattle.calls.specs.Datagram.{Call, datagramOf}
+use Rattle.calls.specs.Due.{answerDue}
 use Rattle.calls.specs.Own.{roundOf, reportOf}
 use Rattle.calls.specs.Padding.{refusingPadding}
 
@@ -36,6 +38,7 @@ pub data Made : State → Type 0 where
   reported : {s : State} → Made s → (out : ℕ) (store : List ℕ) (time : Point) (which : Report) → Made (reportOf s out store time which .state)
   booted : {s : State} → Made s → Made (bootOf s)
   padding : {s : State} → Made s → (on : Bool) → Made (refusingPadding s on)
+  due : {s : State} → Made s → (answers : List ℕ) (out : ℕ) (store : List ℕ) (time : Point) → Made (answerDue s answers out store time .state)
 
 abbrev pub Between : ℕ → ℕ → ℕ → Type 0
 Between low n high = (low ≤ n) × (n ≤ high)
@@ -91,6 +94,7 @@ pub record Sized (s : State) : Type 0 where
   pub images : ImagesSized (s .device) (s .images)
   pub assigned : AssignedSized (s .assigned)
   pub registration : RegistrationSized (s .device) (s .registration)
+  pub waiting : WaitingSized (s .waiting)
 
 abbrev pub MadeSized : Type 0
 MadeSized = (s : State) → Made s → Sized s

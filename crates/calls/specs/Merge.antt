@@ -20,13 +20,16 @@ use Rattle.request.specs.Request.{requestOf}
 use Rattle.request.specs.declared.Asks.{Asks}
 use Rattle.request.specs.declared.Asks.the-variants.{Error, Post, Index, Record, Records}
 use Rattle.run.specs.Post.{judgedAt}
+use Rattle.run.specs.Run.{anyAnswered}
 use Rattle.step.specs.Step.{withFlash}
 use Rattle.state.specs.declared.Device.{Device}
 use Rattle.state.specs.declared.Groups.{Groups}
 use Rattle.state.specs.declared.State.{State}
+use Rattle.state.specs.declared.Waiting.{Waiting}
 use Rattle.tlv.specs.Record.{Tlv, records}
 use Rattle.transfer.specs.Block.{Flash, Offer, offered}
 use Rattle.transfer.specs.Merge.{Merge, Agreeing, Ended}
+use Rattle.waiting.specs.Waiting.{isFull}
 use Rattle.class.specs.Class.{classOf}
 use Rattle.calls.specs.Datagram.{Call, refusal, worldIn, withWorld, datagramOf}
 use Rattle.calls.specs.Made.{Made}
@@ -50,27 +53,32 @@ abbrev pub runsJudged : List ℕ → Judgement → List Tlv
 runsJudged p (Erring code) = []
 runsJudged p Run = records p
 
-abbrev pub runsAsked : Device → Groups → Call → List ℕ → Asks → List Tlv
-runsAsked d g c p (Error code) = []
-runsAsked d g c p Post = runsJudged p (judgedAt d g p (c .time) (c .verdict))
-runsAsked d g c p Index = []
-runsAsked d g c p (Record id) = []
-runsAsked d g c p Records = []
+-- document 02, Q-1: a POST that asks for a delay and finds no place that it needs ends before step j
+unfoldable pub shutOut : Bool → Waiting → List ℕ → Bool
+shutOut delayed w p = delayed && (isFull w && anyAnswered (records p))
 
-abbrev pub runsClassed : Device → Groups → Call → Frame → Class → List Tlv
-runsClassed d g c f Request = runsAsked d g c (drop (f .payload) (c .bytes)) (requestOf (c .bytes) f .asks)
-runsClassed d g c f Acknowledgement = []
-runsClassed d g c f Rejected = []
-runsClassed d g c f Ignored = []
+abbrev pub runsAsked : Device → Groups → Waiting → Call → Bool → List ℕ → Asks → List Tlv
+runsAsked d g w c delayed p (Error code) = []
+runsAsked d g w c delayed p Post = pick (shutOut delayed w p) [] (runsJudged p (judgedAt d g p (c .time) (c .verdict)))
+runsAsked d g w c delayed p Index = []
+runsAsked d g w c delayed p (Record id) = []
+runsAsked d g w c delayed p Records = []
 
-abbrev pub runsFramed : Device → Groups → Call → Datagram → List Tlv
-runsFramed d g c (Whole f) = runsClassed d g c f (classOf (f .kind) (f .code))
-runsFramed d g c (Malformed kind id) = []
-runsFramed d g c Foreign = []
+abbrev pub runsClassed : Device → Groups → Waiting → Call → Frame → Class → List Tlv
+runsClassed d g w c f Request = runsAsked d g w c (requestOf (c .bytes) f .delayed) (drop (f .payload) (c .bytes)) (requestOf (c .bytes) f .asks)
+runsClassed d g w c f Acknowledgement = []
+runsClassed d g w c f Rejected = []
+runsClassed d g w c f Ignored = []
+
+abbrev pub runsFramed : Device → Groups → Waiting → Call → Datagram → List Tlv
+runsFramed d g w c (Whole f) = runsClassed d g w c f (classOf (f .kind) (f .code))
+runsFramed d g w c (Malformed kind id) = []
+runsFramed d g w c Foreign = []
 
 unfoldable pub runs : Kept → Call → List Tlv
 runs k c =
-    pick (eqb (refusal (k .state) (k .image) c) 0) (runsFramed (k .state .device) (k .state .assigned .groups) c (frameOf (c .bytes))) []
+    pick (eqb (refusal (k .state) (k .image) c) 0)
+    (runsFramed (k .state .device) (k .state .assigned .groups) (k .state .waiting) c (frameOf (c .bytes))) []
 
 -- 65, 68, 69, 70 or a redirect not ignored
 unfoldable pub steers : Tlv → Bool
@@ -130,3 +138,10 @@ abbrev pub Demand3 : Type 0
 Demand3 =
     (k : Kept) (xs ys zs : List Call) → Made (k .state) → k .state .images .«open» ≡ true → Feed k xs → Feed k ys → Merge xs ys zs
     → Agreeing (k .state .images .image) (brought k xs) (brought k ys) → Merged k xs ys zs
+
+-- no feed moves the waiting list: `rest` has it with the state, and each call of a feed, at its own turn, leaves what the answers hold in the buffer that is
+-- lent for it
+abbrev pub AnswersStay : Type 0
+AnswersStay =
+    (k : Kept) (xs : List Call) (c : Call) (ys : List Call) → k .state .images .«open» ≡ true → Feed k (xs ++ (c ∷ ys))
+    → datagramOf (afterAll xs k .state) (afterAll xs k .image) c .answers ≡ c .answers

@@ -28,7 +28,7 @@ abbrev pub unsent : ℕ → State → Sending
 unsent outcome s = record { outcome = outcome; sent = []; state = s }
 
 abbrev pub withRegistration : State → Registration → State
-withRegistration s r = record { device = s .device; images = s .images; assigned = s .assigned; registration = r }
+withRegistration s r = record { device = s .device; images = s .images; assigned = s .assigned; registration = r; waiting = s .waiting }
 
 -- refusal 10, where there is no datagram to send
 unfoldable pub sending : State → Registration → List ℕ → Sending

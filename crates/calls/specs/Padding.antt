@@ -20,4 +20,4 @@ withPaddingRefused d on =
 -- on or off; all else stays
 unfoldable pub refusingPadding : State → Bool → State
 refusingPadding s on =
-    record { device = withPaddingRefused (s .device) on; images = s .images; assigned = s .assigned; registration = s .registration }
+    record { device = withPaddingRefused (s .device) on; images = s .images; assigned = s .assigned; registration = s .registration; waiting = s .waiting }

@@ -3,13 +3,14 @@
 use Prim.Native.Nat.{ℕ}
 use mathlib.Core.Path.{_≡_}
 use mathlib.Core.List.{List, [], _++_}
-use mathlib.Core.Bool.{true}
+use mathlib.Core.Bool.{Bool, true}
 use lib.Dec.{eqb}
 use Rattle.buffer.specs.Pick.{pick}
 use Rattle.coap.specs.Write.{reset, registrationHead, reportHead}
 use Rattle.copy.specs.Shown.{copies}
 use Rattle.copy.specs.declared.Choice.{Choice}
 use Rattle.csmp.specs.Tables.{tlvIndex, session, reportSubscribe, currentTime, group, response, loadResponse, imageInfo}
+use Rattle.outgoing.specs.Sent.{headOf}
 use Rattle.outgoing.specs.declared.Report.{Report}
 use Rattle.protobuf.specs.Each.{Each}
 use Rattle.reply.specs.Reply.{replyOf}
@@ -19,12 +20,15 @@ use Rattle.store.specs.Store.{acceptable}
 use Rattle.tables.specs.Statements.{Texts}
 use Rattle.tables.specs.Table.{Table, end, Values, writeBy}
 use Rattle.tlv.specs.Record.{Tlv, records, recordBytes}
+use Rattle.calls.specs.Answers.{Lent}
 use Rattle.calls.specs.Datagram.{Call, datagramOf}
+use Rattle.calls.specs.Due.{answerDue}
 use Rattle.calls.specs.Made.{Made}
 use Rattle.calls.specs.Own.{roundOf, reportOf}
 
 -- What is kept of strings that were read is text by `MadeSized`: file name and version (`ImagesSized .name`, `.version`), the session's id (`AssignedSized .text`),
--- the URL of a redirect (`RegistrationSized .text`); of a report's lists only ids are kept, as numbers. The texts of setup (hardware ids and URL) are the host's: no
+-- the URL of a redirect (`RegistrationSized .text`); of a report's lists only ids are kept, as numbers. The URL that a query names (document 02, Q-1) is no field: it is kept and given
+-- back as bytes, and no record holds it. The texts of setup (hardware ids and URL) are the host's: no
 -- call changes them (`PaddingRefused .called`, `.rounded`, `.reported`, `.booted`), and no record that is written holds one.
 
 -- the table of each record that the agent writes, by its type; for other types the one without rows
@@ -69,3 +73,6 @@ pub record TextOnly : Type 0 where
       → Sends store (registrationHead (s .registration .«message_id»)) (roundOf s out store time .sent)
   pub reported : (s : State) (out : ℕ) (store : List ℕ) (time : Point) (which : Report) → Made s
       → Sends store (reportHead (s .registration .«message_id»)) (reportOf s out store time which .sent)
+  -- and a delayed answer (document 02, Q-1), to /c or to a URL of its own
+  pub dispatched : (s : State) (answers : List ℕ) (out : ℕ) (store : List ℕ) (time : Point) → Lent s answers
+      → (named : Bool) × Sends store (headOf named (s .registration .«message_id»)) (answerDue s answers out store time .sent)

@@ -71,16 +71,22 @@ own first id letter b rest e t =
     (short s 6 11 0x11 refl (omega arith) (omega arith) (omega arith) (omega arith)
     (marked s 8 12 refl (omega arith))))
 
+formatted : (first code id b : ℕ) (rest : List ℕ) → first / 64 ≡ 1 → first % 16 ≡ 0 → 0 < code
+    → messageOf (headed first code id (0xC1 ∷ 0x2A ∷ 0xFF ∷ b ∷ rest))
+    ≡ some (record { kind = first / 16 % 4; code = code; id = id; options = format ∷ []; payload = b ∷ rest })
+formatted first code id b rest e t h =
+    let s = headed first code id (0xC1 ∷ 0x2A ∷ 0xFF ∷ b ∷ rest) in
+    whole first code id 7 (drop 4 s) _ e t h
+    (short s 4 0 0xC1 refl (omega arith) (omega arith) (omega arith) (omega arith)
+    (marked s 6 12 refl (omega arith)))
+
 pub round-trip : RoundTrip
 round-trip =
     record {
       resets = λ id h. emptied id;
       bare = λ code id h k l. whole 0x60 code id 4 [] [] refl refl h (ended (headed 0x60 code id []) 4 0 (omega arith));
-      filled = λ code id b rest h k l.
-          let s = headed 0x60 code id (0xC1 ∷ 0x2A ∷ 0xFF ∷ b ∷ rest) in
-          whole 0x60 code id 7 (drop 4 s) _ refl refl h
-          (short s 4 0 0xC1 refl (omega arith) (omega arith) (omega arith) (omega arith)
-          (marked s 6 12 refl (omega arith)));
+      filled = λ code id b rest h k l. formatted 0x60 code id b rest refl refl h;
       registration = λ id b rest h. own 0x40 id 114 b rest refl refl;
       report = λ id b rest h. own 0x50 id 99 b rest refl refl;
+      answer = λ id b rest h. formatted 0x50 2 id b rest refl refl (omega arith);
     }

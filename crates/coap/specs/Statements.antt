@@ -7,7 +7,7 @@ use mathlib.Core.Option.{Option, none, some}
 use lib.ListN.{drop}
 use Rattle.coap.specs.Option.{options, valueOf}
 use Rattle.coap.specs.Frame.{frameOf}
-use Rattle.coap.specs.Write.{reset, replyHead, registrationHead, reportHead}
+use Rattle.coap.specs.Write.{reset, replyHead, registrationHead, reportHead, answerHead}
 use Rattle.coap.specs.declared.CoapOption.{CoapOption}
 use Rattle.coap.specs.declared.Frame.{Frame}
 use Rattle.coap.specs.declared.Datagram.{Datagram}
@@ -65,3 +65,5 @@ pub record RoundTrip : Type 0 where
       → messageOf (registrationHead id ++ (b ∷ rest)) ≡ some (record { kind = 0; code = 2; id = id; options = toPath 114 ∷ format ∷ []; payload = b ∷ rest })
   pub report : (id b : ℕ) (rest : List ℕ) → id < 65536
       → messageOf (reportHead id ++ (b ∷ rest)) ≡ some (record { kind = 1; code = 2; id = id; options = toPath 99 ∷ format ∷ []; payload = b ∷ rest })
+  pub answer : (id b : ℕ) (rest : List ℕ) → id < 65536
+      → messageOf (answerHead id ++ (b ∷ rest)) ≡ some (record { kind = 1; code = 2; id = id; options = format ∷ []; payload = b ∷ rest })

@@ -1,5 +1,5 @@
 -- What the agent sends, document 01, "Requests": replies have no token, and those with payload carry option 12 = 42 alone; own POSTs one
--- option 11, `r` or `c`, then 12 = 42.
+-- option 11, `r` or `c`, then 12 = 42; a delayed answer to a URL of its own (document 02, Q-1) 12 = 42 alone.
 use Prim.Native.Nat.{ℕ, _/_, _%_}
 use mathlib.Core.List.{List, [], _∷_}
 use mathlib.Core.Bool.{Bool, true, false}
@@ -24,3 +24,7 @@ registrationHead id = ownHead 0x40 id 114
 -- a report: NON, to `c`
 abbrev pub reportHead : ℕ → List ℕ
 reportHead id = ownHead 0x50 id 99
+
+-- an answer to a URL of its own, document 02, Q-1: NON, without a path
+abbrev pub answerHead : ℕ → List ℕ
+answerHead id = 0x50 ∷ 2 ∷ id / 256 ∷ id % 256 ∷ 0xC1 ∷ 0x2A ∷ 0xFF ∷ []

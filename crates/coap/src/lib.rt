@@ -2,6 +2,7 @@
 // Options and payload stay where they are: positions say where they stand.
 mod write;
 
+pub use write::put_answer;
 pub use write::put_registration;
 pub use write::put_reply;
 pub use write::put_report;

@@ -1,6 +1,6 @@
 // The heads of what the agent sends. None has a token.
 ghost use Rattle.buffer.specs.Put.{Put};
-ghost use Rattle.coap.specs.Write.{reset, replyHead, ownHead, registrationHead, reportHead};
+ghost use Rattle.coap.specs.Write.{reset, replyHead, ownHead, registrationHead, reportHead, answerHead};
 
 // Appends a reset.
 pub fn put_reset(out: &mut [u8], at: usize, id: u16) -> usize
@@ -60,4 +60,20 @@ pub fn put_report(out: &mut [u8], at: usize, id: u16) -> usize
     ensures { λ r. ⌜ Put (now (out .entry)) at (reportHead id) (now (out .exit)) r ⌝ }
 {
     put_own(out, at, 0x50, id, b'c')
+}
+
+// Appends the head of an answer that goes to a URL of its own: a NON POST without a path.
+pub fn put_answer(out: &mut [u8], at: usize, id: u16) -> usize
+    ensures { λ r. ⌜ Put (now (out .entry)) at (answerHead id) (now (out .exit)) r ⌝ }
+{
+    let head = [
+        0x50,
+        2,
+        (id / 256) as u8,
+        (id % 256) as u8,
+        0xC1,
+        0x2A,
+        0xFF,
+    ];
+    buffer::put(out, at, &head)
 }

@@ -28,7 +28,7 @@ abbrev pub timeField : Moment → List ℕ
 timeField t = ifAny (numberField 3) (numberGiven (momentNumber t))
 
 pub response-record-most : (kind : ℕ) (h : Hash) (answer : ℕ) (time : Moment) → kind < 128 → length (h .bytes) ≡ 32 → answer < 128
-    → length (timeField time) ≤ 6 → length (responseRecord kind h answer time) ≤ 48
+    → length (timeField time) ≤ 6 → length (responseRecord kind h answer time) ≤ 44
 unfolding responseRecord writeBy written ifAny
 response-record-most kind h answer time k l a t =
     let x = ifAny (bytesField 1) (ifGiven (h .given) (h .bytes)) in

@@ -6,7 +6,7 @@ use native.Mathlib.Omega.{arith}
 use borrow.Author.Tests.{lt-ltb, le-ltb}
 use lib.ListN.{length, take, drop, getD, length-take}
 use lib.Seq.{sets-eq, take-suc, take-all, take-append-seam}
-use Rattle.agent.specs.Left.{Left}
+use Rattle.dispatch.specs.Left.{Left}
 use Rattle.calls.specs.Datagram.{Effect}
 use Rattle.reply.specs.declared.DatagramAnswer.{DatagramAnswer}
 use Rattle.buffer.specs.Put.{Put, Appended}
@@ -89,7 +89,7 @@ refusal-join outcome p q r t =
     (appended-join (field outcome) (field 0 ++ (45 ∷ 10 ∷ [])) q (appended-join (field 0) (45 ∷ 10 ∷ []) r (appended-put t)))
 
 -- what the call leaves at the front of its output is its reply
-module _ (e : Effect) {zeros buf flash : List ℕ} {a : DatagramAnswer} (l : Left e zeros a flash buf) (z : length zeros ≡ 1280) where
+module _ (e : Effect) {zeros buf lent flash : List ℕ} {a : DatagramAnswer} (l : Left e zeros a lent flash buf) (z : length zeros ≡ 1280) where
   pub reply-short : length (take (a .len) buf) ≤ 1280
   reply-short =
       let k = l .answer .small in
@@ -102,10 +102,11 @@ module _ (e : Effect) {zeros buf flash : List ℕ} {a : DatagramAnswer} (l : Lef
       rw (q, l .answer .bytes, sets-eq (e .reply) zeros 0 (omega arith), take-append-seam (e .reply) (drop (0 + length (e .reply)) zeros))
 
   pub listed : (n : ℕ) {f out left : List ℕ} {m : ℕ} → f ≡ take (a .len) buf → Appended out 0 (lineOf n (a .outcome) f) left m
-      → Listed n e out (record { len = m; state = a .state }) flash left
+      → Listed n e out (record { len = m; state = a .state }) lent flash left
   listed n {f} {out} {left} {m} k p =
       record {
         line = rw (k, reply-front, l .answer .outcome) at p;
         state = l .answer .state;
+        answers = l .answers;
         image = l .image;
       }

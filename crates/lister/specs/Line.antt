@@ -28,9 +28,10 @@ listedDevice =
       «signed_responses» = false;
     })
 
--- empty store
-unfoldable pub callOf : List ℕ → Point → ℕ → Call
-callOf bytes time verdict = record { out = replicate 1280 0; bytes = bytes; store = []; time = time; verdict = verdict }
+-- empty store; the random number is 0
+unfoldable pub callOf : List ℕ → List ℕ → Point → ℕ → Call
+callOf answers bytes time verdict =
+    record { out = replicate 1280 0; bytes = bytes; store = []; time = time; verdict = verdict; random = 0; answers = answers }
 
 -- lower-case hex
 unfoldable pub hexDigit : ℕ → ℕ
@@ -64,8 +65,9 @@ header = 110 ∷ 32 ∷ 111 ∷ 117 ∷ 116 ∷ 99 ∷ 111 ∷ 109 ∷ 101 ∷ 3
 unfoldable pub refusalLine : ℕ → List ℕ
 refusalLine outcome = (45 ∷ 32 ∷ []) ++ (field outcome ++ (field 0 ++ (45 ∷ 10 ∷ [])))
 
--- what listing an entry leaves: its line, the state and the image after the call
-pub record Listed (n : ℕ) (e : Effect) (out : List ℕ) (r : Line) (flash left : List ℕ) : Type 0 where
+-- what listing an entry leaves: its line, the state and the two buffers after the call
+pub record Listed (n : ℕ) (e : Effect) (out : List ℕ) (r : Line) (lent flash left : List ℕ) : Type 0 where
   pub line : Appended out 0 (lineOf n (e .outcome) (e .reply)) left (r .len)
   pub state : r .state ≡ e .state
+  pub answers : lent ≡ e .answers
   pub image : flash ≡ e .image

@@ -37,6 +37,7 @@ pub fn device() -> Setup
 // Plays a datagram, and puts its line at the front of the output.
 pub fn put_entry(
     state: State,
+    answers: &mut [u8; 4736],
     image: &mut [u8],
     n: u32,
     bytes: &[u8],
@@ -44,25 +45,52 @@ pub fn put_entry(
     verdict: u8,
     out: &mut [u8],
 ) -> Line
-    ensures { λ r. ⌜ Listed n (datagramOf state (now (image .entry)) (callOf (now (bytes .entry)) time verdict)) (now (out .entry)) r (now (image .exit)) (now (out .exit)) ⌝ }
+    ensures { λ r. ⌜ Listed n (datagramOf state (now (image .entry)) (callOf (now (answers .entry)) (now (bytes .entry)) time verdict)) (now (out .entry)) r (now (answers .exit)) (now (image .exit)) (now (out .exit)) ⌝ }
 {
     let mut reply = [0u8; 1280];
-    let answer = agent::datagram(state, image, &mut reply, bytes, b"", time, verdict);
+    let answer = agent::datagram(
+        state,
+        answers,
+        image,
+        &mut reply,
+        bytes,
+        b"",
+        time,
+        verdict,
+        0,
+    );
     let len = text::put_line(out, n, answer.outcome, buffer::front(&reply, answer.len));
     let next = answer.state;
     Line { len, state: next }
 }
 
 // Prints the line of an entry.
-fn list_entry(state: State, image: &mut [u8], n: u32, bytes: &[u8], entry: Entry) -> State {
+fn list_entry(
+    state: State,
+    answers: &mut [u8; 4736],
+    image: &mut [u8],
+    n: u32,
+    bytes: &[u8],
+    entry: Entry,
+) -> State {
     let mut out = [0u8; 2600];
-    let line = put_entry(state, image, n, bytes, entry.time, entry.verdict, &mut out);
+    let line = put_entry(
+        state,
+        answers,
+        image,
+        n,
+        bytes,
+        entry.time,
+        entry.verdict,
+        &mut out,
+    );
     lines::word(buffer::front(&out, line.len));
     line.state
 }
 
 // Prints the lines of so many entries, whose index begins at `index`.
 fn list_entries(s: &[u8], index: u32, count: u16) {
+    let mut answers = [0u8; 4736];
     let mut image = [0u8; 4096];
     let made = device();
     let mut state = made.state;
@@ -71,7 +99,7 @@ fn list_entries(s: &[u8], index: u32, count: u16) {
     while n < count {
         let entry = capture::entry_at(s, index as usize + n as usize * 8);
         let bytes = capture::bytes_at(s, start, entry.len);
-        state = list_entry(state, &mut image, n as u32, bytes, entry);
+        state = list_entry(state, &mut answers, &mut image, n as u32, bytes, entry);
         start += entry.len as usize;
         n += 1;
     }

@@ -1,7 +1,7 @@
 // Plays the lives of devices: each line on standard input is a call of the agent, printed again with what it answers.
 //
 // A life's calls go on from one state. Bytes are in hex, numbers decimal, `-` is none. A line `store` holds a store for
-// calls that say `store=held`. `padding` is the host's call about padded varints. Some lines only look: `image` at the open image, `progress` at how far it is, `complete`
+// calls that say `store=held`. `padding` is the host's call about padded varints, `due` the one that sends a delayed answer. Some lines only look: `image` at the open image, `progress` at how far it is, `complete`
 // at whether none of its blocks is missing, `look` at the URL held and the front of the image buffer. Other lines are
 // printed as they are. No answer was taken from this program: they are those of models written from documents 01 and 02.
 // The first lives came with the order (waits, rounds, acknowledgements, redirects, reports, loads, boots; signed
@@ -62,15 +62,43 @@ fn report(state: State, out: &mut [u8], store: &[u8], line: &[u8]) -> State {
     r.state
 }
 
-fn datagram(state: State, image: &mut [u8], out: &mut [u8], store: &[u8], line: &[u8]) -> State {
+fn datagram(
+    state: State,
+    answers: &mut [u8; 4736],
+    image: &mut [u8],
+    out: &mut [u8],
+    store: &[u8],
+    line: &[u8],
+) -> State {
     let mut bytes = [0u8; 2048];
     let n = script::unhex(script::value(line, b" in="), &mut bytes);
     let given = buffer::front(&bytes, n);
     let verdict = (script::number(line, b" verdict=") % 256) as u8;
-    let r = agent::datagram(state, image, out, given, store, script::time(line), verdict);
+    let time = script::time(line);
+    let random = script::number(line, b" r=");
+    let r = agent::datagram(
+        state,
+        answers,
+        image,
+        out,
+        given,
+        store,
+        time,
+        verdict,
+        random,
+    );
     show::number(b" -> outcome=", r.outcome as u64);
     show::bytes(b" reply=", out, r.len);
     show::number(b" padded=", r.padded as u64);
+    r.state
+}
+
+fn due(state: State, answers: &[u8; 4736], out: &mut [u8], store: &[u8], line: &[u8]) -> State {
+    let r = agent::answer_due(state, answers, out, store, script::time(line));
+    show::number(b" -> outcome=", r.outcome as u64);
+    let letters = r.url.bytes;
+    show::url(b" url=", letters, r.url.len);
+    show::bytes(b" sent=", out, r.len);
     r.state
 }
 
@@ -91,9 +119,19 @@ fn look(state: State, image: &[u8], line: &[u8]) {
 }
 
 // A call that is lent buffers, or a line that only looks.
-fn lend(state: State, image: &mut [u8], out: &mut [u8], store: &[u8], line: &[u8]) -> State {
+fn lend(
+    state: State,
+    answers: &mut [u8; 4736],
+    image: &mut [u8],
+    out: &mut [u8],
+    store: &[u8],
+    line: &[u8],
+) -> State {
     if script::stands(line, 0, b"datagram ") {
-        return datagram(state, image, out, store, line);
+        return datagram(state, answers, image, out, store, line);
+    }
+    if script::stands(line, 0, b"due ") {
+        return due(state, answers, out, store, line);
     }
     if script::stands(line, 0, b"round ") {
         return round(state, out, store, line);
@@ -106,18 +144,25 @@ fn lend(state: State, image: &mut [u8], out: &mut [u8], store: &[u8], line: &[u8
 }
 
 // Lends as much of the buffers as the line and the setup say, and the store that `hex` spells.
-fn ask(state: State, image: &mut [u8], line: &[u8], hex: &[u8]) -> State {
+fn ask(state: State, answers: &mut [u8; 4736], image: &mut [u8], line: &[u8], hex: &[u8]) -> State {
     let mut bytes = [0u8; 8192];
     let n = script::unhex(hex, &mut bytes);
     let store = buffer::front(&bytes, n);
     let mut out = [0u8; 1280];
     let len = room(line);
     let size = script::image_room(state, image.len());
-    lend(state, &mut image[..size], &mut out[..len], store, line)
+    lend(
+        state,
+        answers,
+        &mut image[..size],
+        &mut out[..len],
+        store,
+        line,
+    )
 }
 
 // A call by its name; a setup begins a life, over an image buffer of zeros. Other lines are no calls.
-fn act(state: State, image: &mut [u8], line: &[u8], hex: &[u8]) -> State {
+fn act(state: State, answers: &mut [u8; 4736], image: &mut [u8], line: &[u8], hex: &[u8]) -> State {
     if script::stands(line, 0, b"setup ") {
         let zeros = [0u8; 4096];
         buffer::copy(image, &zeros);
@@ -132,17 +177,24 @@ fn act(state: State, image: &mut [u8], line: &[u8], hex: &[u8]) -> State {
     if script::stands(line, 0, b"padding ") {
         return agent::refuse_padding(state, script::number(line, b" refused=") == 1);
     }
-    ask(state, image, line, hex)
+    ask(state, answers, image, line, hex)
 }
 
-fn play_line(state: State, image: &mut [u8], line: &[u8], hex: &[u8]) -> State {
+fn play_line(
+    state: State,
+    answers: &mut [u8; 4736],
+    image: &mut [u8],
+    line: &[u8],
+    hex: &[u8],
+) -> State {
     lines::word(line);
-    let next = act(state, image, line, hex);
+    let next = act(state, answers, image, line, hex);
     lines::word(b"\n");
     next
 }
 
 fn play(s: &[u8]) {
+    let mut answers = [0u8; 4736];
     let mut image = [0u8; 4096];
     let none = script::set_up(b"");
     let mut state = none.state;
@@ -153,6 +205,7 @@ fn play(s: &[u8]) {
         held = script::held(s, held, line);
         state = play_line(
             state,
+            &mut answers,
             &mut image,
             script::of(s, line),
             script::store_of(s, held, line),

@@ -48,14 +48,14 @@ pub fn progress(state: State) {
     number(b" complete=", p.complete as u64);
 }
 
-fn url(letters: [u8; 128], len: usize) {
-    bytes(b" -> url=", &letters, len);
+pub fn url(key: &[u8], letters: [u8; 128], len: usize) {
+    bytes(key, &letters, len);
 }
 
 // The URL held, and the first bytes of the image buffer.
 pub fn kept(state: State, buffer: &[u8], len: usize) {
     let letters = state.registration.url.bytes;
-    url(letters, state.registration.url.len);
+    url(b" -> url=", letters, state.registration.url.len);
     bytes(b" image=", buffer, len);
 }
 

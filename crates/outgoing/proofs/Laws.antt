@@ -1,8 +1,8 @@
 -- Laws of own datagrams: their pieces one behind the other, and what is sent where they fit.
 use Prim.Native.Nat.{ℕ, _+_, _≤_, _<_}
-use mathlib.Core.Path.{_≡_, refl}
+use mathlib.Core.Path.{_≡_, refl, sym, _∙_}
 use mathlib.Core.List.{List, [], _++_}
-use mathlib.Core.Bool.{Bool, true, false, not}
+use mathlib.Core.Bool.{Bool, true, false, not, true≢false}
 use native.Mathlib.Omega.{arith}
 use borrow.Author.Tests.{not-true, not-false, ltb-true, ltb-false, lt-ltb, le-ltb, eq-eqb, ne-eqb}
 use lib.Dec.{eqb, ltb}
@@ -10,8 +10,9 @@ use lib.ListN.{length, take}
 use Rattle.buffer.specs.Pick.{pick}
 use Rattle.buffer.specs.Put.{Put, Appended, after}
 use Rattle.buffer.proofs.Puts.{put-fits, appended-put, appended-join, appended-all, appended-front}
+use Rattle.buffer.proofs.Tests.{pick-both}
 use Rattle.buffer.proofs.Stretches.{fits-true, fits-false}
-use Rattle.coap.specs.Write.{registrationHead, reportHead}
+use Rattle.coap.specs.Write.{registrationHead, reportHead, answerHead}
 use Rattle.encode.specs.Write.{sessionRecord, timeRecord}
 use Rattle.decimal.specs.Ids.{held}
 use Rattle.schedule.specs.declared.Point.{Point}
@@ -19,7 +20,7 @@ use Rattle.state.specs.Groups.{heldPairs}
 use Rattle.state.specs.declared.Assigned.{Assigned}
 use Rattle.state.specs.declared.State.{State}
 use Rattle.own.specs.Own.{reportShown, groupsShown, ownRecords}
-use Rattle.outgoing.specs.Sent.{sendable, sessionShown, deviceId, knownTo, registrationSent, reportSent}
+use Rattle.outgoing.specs.Sent.{sendable, sessionShown, deviceId, knownTo, registrationSent, reportSent, headOf, answerSent}
 use Rattle.copy.specs.Shown.{copies, shownAll}
 use Rattle.copy.specs.declared.Choice.the-variants.{Only, Except}
 
@@ -135,6 +136,41 @@ report-sent s store time {own} l o p q r t u =
     (appended-join h (d ++ (timeRecord time ++ k)) (appended-put p) (appended-join d (timeRecord time ++ k) q (appended-join (timeRecord time) k (appended-put r) t)))
     u)
 
+-- the head of a delayed answer
+module _ {out left : List ℕ} {n : ℕ} (named : Bool) (id : ℕ) where
+  pub head-named : named ≡ true → Put out 0 (answerHead id) left n → Put out 0 (headOf named id) left n
+  unfolding headOf
+  head-named e p = rw e p
+
+  pub head-path : named ≡ false → Put out 0 (reportHead id) left n → Put out 0 (headOf named id) left n
+  unfolding headOf
+  head-path e p = rw e p
+
+-- a delayed answer: nothing without a session or a record
+module _ (s : State) (time : Point) (named : Bool) (rs : List ℕ) where
+  pub answer-none : (out : List ℕ) → not (s .assigned .«in_session») ≡ true → Put out 0 (answerSent s time named rs) out 0
+  unfolding answerSent
+  answer-none out e = rw (not-true (s .assigned .«in_session») e) (put-nothing out)
+
+  module _ (e : not (s .assigned .«in_session») ≡ false) where
+    pub answer-empty : (out : List ℕ) → length rs ≡ 0 → Put out 0 (answerSent s time named rs) out 0
+    unfolding answerSent
+    answer-empty out h = rw (not-false (s .assigned .«in_session») e, eq-eqb (length rs) 0 h) (put-nothing out)
+
+    pub answer-sent : {zeros w x y body : List ℕ} {a b c end : ℕ} {out left : List ℕ} {n : ℕ} → (length rs ≡ 0 → ⊥) → length zeros ≡ 1280
+        → Put zeros 0 (headOf named (s .registration .«message_id»)) w a → Appended w a (sessionShown (s .assigned)) x b → Put x b (timeRecord time) y c
+        → Put y c rs body end → Put out 0 (pick (ltb (length body) end) [] (take end body)) left n → Put out 0 (answerSent s time named rs) left n
+    unfolding answerSent
+    answer-sent {out = out} {left} {n} h l p q r t u =
+        let f = headOf named (s .registration .«message_id») in
+        let d = sessionShown (s .assigned) in
+        let k = timeRecord time ++ rs in
+        pick-both (λ (bs : List ℕ). Put out 0 bs left n) (s .assigned .«in_session») _ _
+        (λ g. rw (ne-eqb (length rs) 0 h)
+        (sent-put (f ++ (d ++ k)) l
+        (appended-join f (d ++ k) (appended-put p) (appended-join d k q (appended-join (timeRecord time) rs (appended-put r) (appended-put t)))) u))
+        (λ g. absurd (true≢false (sym (not-false (s .assigned .«in_session») e) ∙ g)))
+
 -- what is sent has at most 1,280 bytes
 sendable-short : (bs : List ℕ) → length (sendable bs) ≤ 1280
 unfolding sendable
@@ -158,3 +194,10 @@ registration-short s store time = go (eqb (length (deviceId store)) 0)
 pub report-short : (s : State) (store : List ℕ) (time : Point) → length (reportSent s store time) ≤ 1280
 unfolding reportSent
 report-short s store time = sendable-short _
+
+pub answer-short : (s : State) (time : Point) (named : Bool) (rs : List ℕ) → length (answerSent s time named rs) ≤ 1280
+unfolding answerSent
+answer-short s time named rs =
+    pick-both (λ (bs : List ℕ). length bs ≤ 1280) (s .assigned .«in_session») _ _
+    (λ e. pick-both (λ (bs : List ℕ). length bs ≤ 1280) (eqb (length rs) 0) _ _ (λ f. omega arith) (λ f. sendable-short _))
+    (λ e. omega arith)

@@ -1,10 +1,11 @@
--- Own datagrams, document 01, "Registration and reports" and refusal 10.
+-- Own datagrams, document 01, "Registration and reports" and refusal 10; delayed answers, document 02, Q-1.
 use Prim.Native.Nat.{ℕ}
 use mathlib.Core.List.{List, [], _++_}
+use mathlib.Core.Bool.{Bool}
 use lib.Dec.{eqb, ltb}
 use lib.ListN.{length}
 use Rattle.buffer.specs.Pick.{pick}
-use Rattle.coap.specs.Write.{registrationHead, reportHead}
+use Rattle.coap.specs.Write.{registrationHead, reportHead, answerHead}
 use Rattle.encode.specs.Write.{sessionRecord, timeRecord}
 use Rattle.decimal.specs.Ids.{held}
 use Rattle.schedule.specs.declared.Point.{Point}
@@ -45,3 +46,15 @@ reportSent s store time =
     sendable
     (reportHead (s .registration .«message_id»)
     ++ (sessionShown (s .assigned) ++ (timeRecord time ++ shownAll store (ownRecords s time) (held (s .assigned .ids)))))
+
+-- a delayed answer's NON POST to /c, or without a path for the URL that the request named: session, CurrentTime and the answer's records; nothing
+-- without a session or a record, or over 1,280 bytes
+unfoldable pub headOf : Bool → ℕ → List ℕ
+headOf named id = pick named (answerHead id) (reportHead id)
+
+unfoldable pub answerSent : State → Point → Bool → List ℕ → List ℕ
+answerSent s time named rs =
+    pick (s .assigned .«in_session»)
+    (pick (eqb (length rs) 0) []
+    (sendable (headOf named (s .registration .«message_id») ++ (sessionShown (s .assigned) ++ (timeRecord time ++ rs)))))
+    []

@@ -1,2 +1,4 @@
 pub mod Laws
 pub mod Requests
+pub mod Texts
+pub mod Judged

@@ -1,12 +1,12 @@
--- A response takes at most 48 bytes.
-use Prim.Native.Nat.{ℕ, _%_, _^_, _≤_, _<_}
+-- A response takes at most 44 bytes, those of 24 records 1,056.
+use Prim.Native.Nat.{ℕ, _*_, _%_, _^_, _≤_, _<_}
 use mathlib.Core.Path.{_≡_, refl}
-use mathlib.Core.List.{List}
+use mathlib.Core.List.{List, [], _∷_}
 use mathlib.Core.Bool.{Bool, true, false, _&&_, _||_}
 use native.Mathlib.Omega.{arith}
 use borrow.Author.Tests.{ltb-true}
 use lib.Dec.{eqb, ltb}
-use lib.ListN.{length, replicate}
+use lib.ListN.{length, replicate, length-append}
 use lib.Seq.{length-sets}
 use Rattle.buffer.specs.Pick.{pick}
 use Rattle.buffer.specs.Same.{sameBytes}
@@ -36,7 +36,9 @@ use Rattle.state.specs.declared.Images.{Images}
 use Rattle.transfer.specs.Bitmap.{complete}
 use Rattle.transfer.specs.Blocks.{blocks}
 use Rattle.answer.specs.Answer.{loadTime}
-use Rattle.step.specs.Step.{World, response}
+use Rattle.step.specs.Step.{World, act, response}
+use Rattle.tlv.specs.Record.{Tlv}
+use Rattle.run.specs.Run.{responses}
 
 -- a time that was read
 time-never : length (timeField Never) ≤ 6
@@ -135,15 +137,31 @@ unfolding transferAnswered transferTaken
 transfer-below d i v = below-of (isWhole (transferOf v)) _ _ (open-if-below _ i _ (fault-below d i v (transferOf v) _ _)) (lit 6 refl)
 
 -- so are responses
-short : (t : Bool) (a b : List ℕ) → length a ≤ 48 → length b ≤ 48 → length (pick t a b) ≤ 48
+short : (t : Bool) (a b : List ℕ) → length a ≤ 44 → length b ≤ 44 → length (pick t a b) ≤ 44
 short true a b g h = g
 short false a b g h = h
 
-pub response-most : (d : Device) (w : World) (k : ℕ) (v : List ℕ) → length (response d w k v) ≤ 48
+pub response-within : (d : Device) (w : World) (k : ℕ) (v : List ℕ) → length (response d w k v) ≤ 44
 unfolding response
-response-most d w k v =
+response-within d w k v =
     short (eqb k 65) _ _ (response-record-most 71 _ _ _ (lit 71 refl) (hash-length v (transferOf v .hash)) (transfer-below d (w .images) v) time-never)
     (short (eqb k 68) _ _ (response-record-most 72 _ _ _ (lit 72 refl) (hash-length v (loadOf v .hash)) (load-below (w .images) v) (time-most _ v))
     (short (eqb k 69) _ _ (response-record-most 73 _ _ _ (lit 73 refl) (hash-length v (hashOf v .hash)) (cancel-below (w .images) v) time-never)
     (short (eqb k 70) _ _ (response-record-most 74 _ _ _ (lit 74 refl) (hash-length v (hashOf v .hash)) (backup-below (w .images) v) time-never)
     (omega arith))))
+
+-- the room that a record's response is given
+pub response-most : (d : Device) (w : World) (k : ℕ) (v : List ℕ) → length (response d w k v) ≤ 48
+response-most d w k v = omega (arith, response-within d w k v)
+
+-- those of several records
+responses-within : (d : Device) (w : World) (ts : List Tlv) → length (responses d w ts) ≤ 44 * length ts
+unfolding responses
+responses-within d w [] = omega arith
+responses-within d w (t ∷ ts) =
+    let r = response d w (t .kind) (t .value) in
+    let next = act d w (t .kind) (t .value) in
+    omega (arith, length-append r (responses d next ts), response-within d w (t .kind) (t .value), responses-within d next ts)
+
+pub responses-most : (d : Device) (w : World) (ts : List Tlv) → length ts ≤ 24 → length (responses d w ts) ≤ 1056
+responses-most d w ts h = omega (arith, responses-within d w ts)

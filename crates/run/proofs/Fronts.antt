@@ -13,7 +13,7 @@ use Rattle.decode_image.specs.declared.Block.{Block}
 use Rattle.state.specs.declared.Device.{Device}
 use Rattle.state.specs.declared.Images.{Images}
 use Rattle.state.specs.declared.Registration.{Registration}
-use Rattle.step.specs.Step.{World, blockTaken, needsMore, act, response}
+use Rattle.step.specs.Step.{World, blockTaken, isRequest, needsMore, act, response}
 use Rattle.tlv.specs.Record.{valued, records, recordAt}
 use Rattle.tlv.specs.declared.Record.{Record}
 use Rattle.tlv.specs.declared.Taken.the-variants.{Record as Whole, Unreadable}
@@ -34,7 +34,7 @@ module _ (d : Device) (w : World) (k : ℕ) (v : List ℕ) (h : needsMore k ≡ 
   Tests = (eqb k 6 ≡ false) × (eqb k 65 ≡ false) × (eqb k 68 ≡ false) × (eqb k 69 ≡ false) × (eqb k 70 ≡ false)
 
   tests : Tests
-  unfolding needsMore listed
+  unfolding needsMore isRequest listed
   tests =
       let a = neither (eqb k 6) _ h in
       let b = neither (eqb k 65) _ (a .1) in

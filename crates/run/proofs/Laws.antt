@@ -108,7 +108,7 @@ module _ (i : Images) (g : Groups) (signed refuse : Bool) (flash p : List ℕ) (
       ap₂ (λ (b : Bool) (s : Seen). judgedAs refuse b s verdict signed) (sym (l .padded)) (sym (l .seen)) ∙ sym h ∙ k in
       let z : length p ≤ length p = omega arith in
       let a = at-end p (length p) z in
-      record { post = λ d reg q o. rw (q, o, f, a); few = rw a (omega arith); created = λ m. absurd (omega arith) }
+      record { post = λ d reg q o. rw (q, o, f, a); few = rw a (omega arith); created = λ m. absurd (omega arith); judged = λ d q o m. absurd (omega arith) }
 
   pub begun-run : {j : Judgement} {r : Begun} {left : List ℕ} → j ≡ judgedAs refuse (looked .padded) (looked .seen) verdict signed → j ≡ Run
       → (r .code ≡ 65) × (r .padded ≡ looked .padded) × FrontBy i flash p (r .images) (r .at) left → BegunBy i g signed refuse flash p time verdict r left
@@ -126,4 +126,5 @@ module _ (i : Images) (g : Groups) (signed refuse : Bool) (flash p : List ℕ) (
             ∙ from-run d (worldWith i reg flash) p (worldWith (r .images) reg left) (r .at) (b .0) (b .1 ∙ l .padded) (b .2 .world d reg) (b .2 .body d reg);
         few = omega arith;
         created = λ m. b .0;
+        judged = λ d q o m. rw (q, o) f;
       }

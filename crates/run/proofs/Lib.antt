@@ -2,3 +2,4 @@ pub mod Bounds
 pub mod Walk
 pub mod Fronts
 pub mod Laws
+pub mod Answered

@@ -2,6 +2,7 @@
 use Prim.Native.Nat.{ℕ, _+_, _*_, _≤_, _<_}
 use mathlib.Core.Path.{_≡_, refl, ap, _∙_}
 use mathlib.Core.List.{List, [], _∷_, _++_}
+use mathlib.Core.Bool.{true, false}
 use native.Mathlib.Omega.{arith}
 use lib.ListN.{length, length-append}
 use lib.Seq.{sets, length-sets}
@@ -13,8 +14,8 @@ use Rattle.tlv.specs.Record.{valued, records, recordAt}
 use Rattle.tlv.specs.declared.Record.{Record}
 use Rattle.tlv.specs.declared.Taken.the-variants.{Record as Whole, Unreadable}
 use Rattle.tlv.proofs.Laws.{records-end, records-more, records-unreadable}
-use Rattle.step.specs.Step.{World, worldOf, act, response}
-use Rattle.run.specs.Run.{recordsAt, ran, responses, RanBy}
+use Rattle.step.specs.Step.{World, worldOf, act, response, isRequest}
+use Rattle.run.specs.Run.{recordsAt, ran, responses, RanBy, anyAnswered}
 use Rattle.answer.specs.declared.Ran.{Ran}
 use Rattle.run.proofs.Bounds.{response-most}
 
@@ -81,3 +82,17 @@ module _ (d : Device) (w₀ : World) (p : List ℕ) (from : ℕ) (out₀ : List 
         room = omega arith;
         kept = l ∙ g .kept;
       }
+
+-- whether a record from where the loop stands on is answered
+pub answered-end : (p : List ℕ) (at : ℕ) → recordsAt p at ≡ [] → anyAnswered (recordsAt p at) ≡ false
+unfolding anyAnswered
+answered-end p at e = rw e
+
+module _ (p : List ℕ) (at : ℕ) (r : Record) (e : recordAt p at ≡ Whole r) where
+  pub answered-here : isRequest (r .kind) ≡ true → anyAnswered (recordsAt p at) ≡ true
+  unfolding anyAnswered
+  answered-here h = rw (at-next p at r e, h)
+
+  pub answered-next : isRequest (r .kind) ≡ false → anyAnswered (recordsAt p at) ≡ anyAnswered (recordsAt p (r .end))
+  unfolding anyAnswered
+  answered-next h = rw (at-next p at r e, h)

@@ -2,13 +2,14 @@
 use Prim.Native.Nat.{ℕ, _+_, _≤_}
 use mathlib.Core.Path.{_≡_}
 use mathlib.Core.List.{List, [], _∷_, _++_, map}
+use mathlib.Core.Bool.{Bool, false, _||_}
 use lib.ListN.{length}
 use lib.Seq.{sets}
 use Rattle.state.specs.declared.Device.{Device}
 use Rattle.state.specs.declared.Images.{Images}
 use Rattle.state.specs.declared.Registration.{Registration}
 use Rattle.tlv.specs.Record.{Tlv, valued, recordsFrom}
-use Rattle.step.specs.Step.{World, worldOf, act, response}
+use Rattle.step.specs.Step.{World, worldOf, act, response, isRequest}
 use Rattle.answer.specs.declared.Ran.{Ran}
 
 -- the records of a payload from a position on
@@ -33,3 +34,8 @@ pub record RanBy (d : Device) (w : World) (ts : List Tlv) (out : List ℕ) (at :
   pub bytes : left ≡ sets out at (responses d w ts)
   pub position : next .end ≡ at + length (responses d w ts)
   pub inside : next .end ≤ length out
+
+-- document 02, Q-1: whether a record is answered
+unfoldable pub anyAnswered : List Tlv → Bool
+anyAnswered [] = false
+anyAnswered (t ∷ ts) = isRequest (t .kind) || anyAnswered ts

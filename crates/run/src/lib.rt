@@ -12,9 +12,11 @@ use state::Images;
 use state::Registration;
 use tlv::Taken;
 ghost use Prim.Native.Nat.{_+_, _*_, _≤_};
+ghost use mathlib.Core.Path.{_≡_};
 ghost use lib.ListN.{length};
+ghost use Rattle.tlv.specs.Record.{records};
 ghost use Rattle.step.specs.Step.{worldOf};
-ghost use Rattle.run.specs.Run.{recordsAt, worldWith, RanBy};
+ghost use Rattle.run.specs.Run.{recordsAt, worldWith, RanBy, anyAnswered};
 ghost use Rattle.run.specs.Post.{BegunBy};
 
 // Steps e to i, and of step j the blocks at the payload's front: the code of the reply, where the records stand that are still to run, the
@@ -42,6 +44,23 @@ pub fn begin(
         },
         Judgement::Run => front::take_front(images, flash, payload, looked),
     }
+}
+
+// Whether a record of the payload is answered: 65, 68, 69 or 70.
+pub fn is_answered(payload: &[u8]) -> bool
+    ensures { λ r. ⌜ r ≡ anyAnswered (records (now (payload .entry))) ⌝ }
+{
+    let mut at = 0;
+    while at < payload.len() {
+        let Taken::Record(r) = tlv::take_record(payload, at) else {
+            return false;
+        };
+        if step::is_request(r.kind) {
+            return true;
+        }
+        at = r.end;
+    }
+    false
 }
 
 // Runs the records from `from` on one by one, and appends their responses.

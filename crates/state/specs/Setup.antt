@@ -1,6 +1,6 @@
 -- Setup, document 01, "Sizes" and refusal 11.
 use Prim.Native.Nat.{ℕ}
-use mathlib.Core.List.{List, []}
+use mathlib.Core.List.{List, [], _∷_}
 use mathlib.Core.Bool.{Bool, false, _&&_}
 use lib.ListN.{length, replicate}
 use lib.Dec.{eqb, leb}
@@ -18,7 +18,10 @@ use Rattle.state.specs.declared.Images.{Images}
 use Rattle.state.specs.declared.Pending.{Pending}
 use Rattle.state.specs.declared.Assigned.{Assigned}
 use Rattle.state.specs.declared.Registration.{Registration}
+use Rattle.state.specs.declared.Delayed.{Delayed}
 use Rattle.state.specs.declared.State.{State}
+use Rattle.state.specs.declared.Waiting.{Waiting}
+use Rattle.state.specs.declared.What.the-variants.{Index}
 use Rattle.state.specs.declared.setup.Settings.{Settings}
 use Rattle.state.specs.declared.setup.Setup.{Setup}
 
@@ -73,6 +76,13 @@ noneAssigned =
       ids = noIds;
     }
 
+-- no answer waits; slots 0 to 3 are free
+abbrev pub freeAt : ℕ → Delayed
+freeAt slot = record { from = record { 0 = 0 }; wait = record { 0 = 0 }; what = Index; url = 0; held = 0; slot = slot }
+
+abbrev pub noneWaiting : Waiting
+noneWaiting = record { list = freeAt 0 ∷ freeAt 1 ∷ freeAt 2 ∷ freeAt 3 ∷ []; count = 0 }
+
 -- setup starts registration: not accepted, no round awaited, interval tIntervalMin
 abbrev pub startingAt : Length → Url → ℕ → Registration
 startingAt interval url id =
@@ -110,6 +120,7 @@ firstState hw vendor running url s =
       images = onlyRunning (hashOf running);
       assigned = noneAssigned;
       registration = startingAt (s .«interval_min») (urlOf url) (s .«message_id»);
+      waiting = noneWaiting;
     }
 
 -- the fixed state beside a refusal

@@ -88,9 +88,35 @@ pub struct Registration {
     pub message_id: u16,
 }
 
+// What an answer that waits is to have: TlvIndex; the records of an id; those of several ids; responses.
+pub enum What {
+    Index,
+    Record(u32),
+    Records,
+    Responses,
+}
+
+// An answer that waits so long from a point on. The URL that it goes to, if it has one, and the text of several ids or the responses stand in a
+// buffer that the host lends, at its slot: so many bytes of the one, so many of the other.
+pub struct Delayed {
+    pub from: Point,
+    pub wait: Length,
+    pub what: What,
+    pub url: usize,
+    pub held: usize,
+    pub slot: usize,
+}
+
+// The answers that wait, in the order in which they came: the first `count` of `list`. Those behind them have the slots that are free.
+pub struct Waiting {
+    pub list: [Delayed; 4],
+    pub count: usize,
+}
+
 pub struct State {
     pub device: Device,
     pub images: Images,
     pub assigned: Assigned,
     pub registration: Registration,
+    pub waiting: Waiting,
 }

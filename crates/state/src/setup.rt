@@ -1,5 +1,6 @@
 // Setup: every value is checked, and a first state is made.
 use crate::Assigned;
+use crate::Delayed;
 use crate::Device;
 use crate::Groups;
 use crate::HwId;
@@ -9,6 +10,8 @@ use crate::Pending;
 use crate::Registration;
 use crate::State;
 use crate::Url;
+use crate::Waiting;
+use crate::What;
 use csmp::Hash;
 use csmp::Image;
 use csmp::Name;
@@ -18,7 +21,7 @@ use schedule::Interval;
 use schedule::Length;
 use schedule::Point;
 ghost use mathlib.Core.Path.{_≡_};
-ghost use Rattle.state.specs.Setup.{hwIdOf, urlOf, hashOf, noImage, noPending, noGroups, onlyRunning, noneAssigned, startingAt, within, validTexts, validSettings, firstState, blankState, refusedSetup, setupOf};
+ghost use Rattle.state.specs.Setup.{hwIdOf, urlOf, hashOf, noImage, noPending, noGroups, onlyRunning, noneAssigned, freeAt, noneWaiting, startingAt, within, validTexts, validSettings, firstState, blankState, refusedSetup, setupOf};
 
 // The numbers and switches of a setup.
 pub struct Settings {
@@ -141,6 +144,29 @@ fn none_assigned() -> Assigned
     }
 }
 
+// A place that is free.
+fn free(slot: usize) -> Delayed
+    ensures { λ r. ⌜ r ≡ freeAt slot ⌝ }
+{
+    Delayed {
+        from: Point(0),
+        wait: Length(0),
+        what: What::Index,
+        url: 0,
+        held: 0,
+        slot,
+    }
+}
+
+fn none_waiting() -> Waiting
+    ensures { λ r. ⌜ r ≡ noneWaiting ⌝ }
+{
+    Waiting {
+        list: [free(0), free(1), free(2), free(3)],
+        count: 0,
+    }
+}
+
 // Registration as setup starts it.
 fn starting(interval: Length, url: Url, message_id: u16) -> Registration
     ensures { λ r. ⌜ r ≡ startingAt interval url «message_id» ⌝ }
@@ -221,11 +247,13 @@ fn first_state(hw_id: &[u8], vendor_hw_id: &[u8], running: &[u8], url: &[u8], s:
     let images = only_running(hash);
     let assigned = none_assigned();
     let registration = starting(low, home, s.message_id);
+    let waiting = none_waiting();
     State {
         device,
         images,
         assigned,
         registration,
+        waiting,
     }
 }
 

@@ -21,7 +21,7 @@ use Rattle.schedule.specs.declared.Moment.{Moment}
 use Rattle.schedule.specs.declared.Moment.the-variants.{Absent as Never}
 use Rattle.state.specs.declared.Device.{Device}
 use Rattle.transfer.specs.Block.{Left, offered, takeOf, takeBlock}
-use Rattle.step.specs.Step.{World, withImages, withFlash, worldOf, blockTaken, act, response, needsMore, Passed, Stepped}
+use Rattle.step.specs.Step.{World, withImages, withFlash, worldOf, blockTaken, act, response, isRequest, needsMore, Passed, Stepped}
 use Rattle.answer.specs.Answer.{loadTime, Responded}
 use Rattle.answer.specs.declared.Ran.{Ran}
 
@@ -35,22 +35,30 @@ pub block-open : (w : World) (v : List ℕ) {b : Block} {i : Image} {bs : List �
 unfolding blockTaken takeBlock offered
 block-open w v h e l = rw (h, l .same-image, l .same-bytes, e)
 
--- the records that do more, as a match tests them
-pub more-alone : (k : ℕ) → OneOf (6 ∷ 65 ∷ 68 ∷ 70 ∷ []) k → needsMore k ≡ true
-unfolding needsMore listed
-more-alone k (inl e) = rw e
-more-alone k (inr (inl e)) = rw e
-more-alone k (inr (inr (inl e))) = rw e
-more-alone k (inr (inr (inr e))) = rw e
+-- the records that are answered, as a match tests them
+pub request-alone : (k : ℕ) → OneOf (65 ∷ 68 ∷ 70 ∷ []) k → isRequest k ≡ true
+unfolding isRequest listed
+request-alone k (inl e) = rw e
+request-alone k (inr (inl e)) = rw e
+request-alone k (inr (inr e)) = rw e
 
-pub more-69 : (k : ℕ) → k ≡ 69 → needsMore k ≡ true
-unfolding needsMore listed
-more-69 k e = rw e
+pub request-69 : (k : ℕ) → k ≡ 69 → isRequest k ≡ true
+unfolding isRequest listed
+request-69 k e = rw e
 
-pub more-other : (k : ℕ) → (OneOf (6 ∷ 65 ∷ 68 ∷ 70 ∷ []) k → ⊥) → (k ≡ 69 → ⊥) → needsMore k ≡ false
-unfolding needsMore listed
-more-other k h g =
-    rw (ne-eqb k 6 (λ q. h (inl q)), ne-eqb k 65 (λ q. h (inr (inl q))), ne-eqb k 68 (λ q. h (inr (inr (inl q)))), ne-eqb k 69 g, ne-eqb k 70 (λ q. h (inr (inr (inr q)))))
+pub request-other : (k : ℕ) → (OneOf (65 ∷ 68 ∷ 70 ∷ []) k → ⊥) → (k ≡ 69 → ⊥) → isRequest k ≡ false
+unfolding isRequest listed
+request-other k h g =
+    rw (ne-eqb k 65 (λ q. h (inl q)), ne-eqb k 68 (λ q. h (inr (inl q))), ne-eqb k 69 g, ne-eqb k 70 (λ q. h (inr (inr q))))
+
+-- and a redirect
+pub more-redirect : (k : ℕ) → k ≡ 6 → needsMore k ≡ true
+unfolding needsMore
+more-redirect k e = rw e
+
+pub more-request : (k : ℕ) → (k ≡ 6 → ⊥) → needsMore k ≡ isRequest k
+unfolding needsMore
+more-request k h = rw (ne-eqb k 6 h)
 
 -- an arm that answers, and one that does not
 module _ (d : Device) (k : ℕ) (v : List ℕ) (out : List ℕ) (r next : Ran) (flash : List ℕ) where

@@ -2,7 +2,7 @@
 use Prim.Native.Nat.{ℕ}
 use mathlib.Core.Path.{_≡_}
 use mathlib.Core.List.{List, [], _∷_}
-use mathlib.Core.Bool.{Bool}
+use mathlib.Core.Bool.{Bool, _||_}
 use lib.Dec.{eqb}
 use Rattle.buffer.specs.Listed.{listed}
 use Rattle.buffer.specs.Pick.{pick}
@@ -71,9 +71,13 @@ response d w k v =
     (pick (eqb k 69) (responseRecord 73 (echoed v (hashOf v .hash)) (cancelAnswered (w .images) v .answer) Never)
     (pick (eqb k 70) (responseRecord 74 (echoed v (hashOf v .hash)) (backupAnswered (w .images) v .answer) Never) [])))
 
--- the records that do more than to put a block, or are answered
+-- the records that are answered
+unfoldable pub isRequest : ℕ → Bool
+isRequest k = listed k (65 ∷ 68 ∷ 69 ∷ 70 ∷ [])
+
+-- those that do more than to put a block: these and a redirect
 unfoldable pub needsMore : ℕ → Bool
-needsMore k = listed k (6 ∷ 65 ∷ 68 ∷ 69 ∷ 70 ∷ [])
+needsMore k = eqb k 6 || isRequest k
 
 -- the world that a value of the code's and an image buffer are
 abbrev pub worldOf : Ran → List ℕ → World

@@ -3,17 +3,27 @@ use answer::Ran;
 use state::Device;
 ghost use mathlib.Core.Path.{_≡_};
 ghost use Rattle.registration.specs.Redirect.{redirected};
-ghost use Rattle.step.specs.Step.{worldOf, blockTaken, needsMore, Passed, Stepped};
+ghost use Rattle.step.specs.Step.{worldOf, blockTaken, needsMore, isRequest, Passed, Stepped};
 
-// A record that does more than to put a block, or is answered: 6, 65, 68, 69, 70.
-pub fn needs_more(kind: u64) -> bool
-    ensures { λ r. ⌜ r ≡ needsMore kind ⌝ }
+// A record that is answered: 65, 68, 69, 70.
+pub fn is_request(kind: u64) -> bool
+    ensures { λ r. ⌜ r ≡ isRequest kind ⌝ }
 {
     match kind {
-        6 | 65 | 68 | 70 => true,
+        65 | 68 | 70 => true,
         69 => true,
         _ => false,
     }
+}
+
+// A record that does more than to put a block: one that is answered, or a redirect.
+pub fn needs_more(kind: u64) -> bool
+    ensures { λ r. ⌜ r ≡ needsMore kind ⌝ }
+{
+    if kind == 6 {
+        return true;
+    }
+    is_request(kind)
 }
 
 // A block goes to the open image, if there is one.

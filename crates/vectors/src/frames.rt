@@ -57,6 +57,7 @@ fn print_path(path: Path) {
     }
 }
 
+// Queries but `a=` and `r=`, whose rules `lives` runs.
 fn print_query(s: &[u8], query: Query) {
     lines::word(b" query");
     match query {
@@ -77,13 +78,14 @@ fn print_query(s: &[u8], query: Query) {
 }
 
 fn print_request(s: &[u8], from: usize) {
-    if request::refused(s, from) {
+    let first = request::look_over(s, from);
+    if first.refused {
         lines::word(b"request refused");
     } else {
         lines::word(b"request taken");
     }
     print_path(request::request_path(s, from));
-    print_query(s, request::request_query(s, from));
+    print_query(s, request::queries(s, from, request::QUERY));
     lines::word(b"\n");
 }
 

@@ -24,7 +24,7 @@ slice-relend-prefix-lend : tie.Need-slice-relend-prefix-lend
 slice-relend-prefix-lend c = search needs
 
 slice-aggregate-lend : tie.Need-slice-aggregate-lend
-slice-aggregate-lend c = sym (length-take-le _ _ (c .before .image-room .ensures))
+slice-aggregate-lend c = sym (length-take-le _ _ (c .before .before .image-room .ensures))
 
 lend-requires : tie.Need-lend-requires
 lend-requires c κs = search needs

@@ -7,10 +7,10 @@ use Rattle.bench.proofs.datagram.Statement.{statement}
 use Rattle.bench.proofs.datagram.Tie as tie
 
 abbrev Inv-loop : tie.InvT-loop
-Inv-loop state image₀ out₀ store line n given verdict time last₀ times i₀ image out last i = (length image ≡ length image₀) × (length out ≡ length out₀)
+Inv-loop state answers₀ image₀ out₀ store line n given verdict time random last₀ times i₀ answers image out last i = (length image ≡ length image₀) × (length out ≡ length out₀)
 
 abbrev μ-loop : tie.MeasureT-loop
-μ-loop state image₀ out₀ store line n given verdict time last₀ times i₀ image out last i = times - i
+μ-loop state answers₀ image₀ out₀ store line n given verdict time random last₀ times i₀ answers image out last i = times - i
 
 slice-aggregate-value : tie.Need-slice-aggregate-value Inv-loop μ-loop
 slice-aggregate-value c = search needs
@@ -42,14 +42,20 @@ cast-verdict c = search needs
 time-requires : tie.Need-time-requires Inv-loop μ-loop
 time-requires c κs = search needs
 
-datagram-requires : tie.Need-datagram-requires Inv-loop μ-loop
-datagram-requires c κs = search needs
-
 slice-aggregate-number-2 : tie.Need-slice-aggregate-number-2 Inv-loop μ-loop
 slice-aggregate-number-2 c = search needs
 
 number-requires-2 : tie.Need-number-requires-2 Inv-loop μ-loop
 number-requires-2 c κs = search needs
+
+datagram-requires : tie.Need-datagram-requires Inv-loop μ-loop
+datagram-requires c κs = search needs
+
+slice-aggregate-number-3 : tie.Need-slice-aggregate-number-3 Inv-loop μ-loop
+slice-aggregate-number-3 c = search needs
+
+number-requires-3 : tie.Need-number-requires-3 Inv-loop μ-loop
+number-requires-3 c κs = search needs
 
 loop-holds : tie.Need-loop-holds Inv-loop μ-loop
 loop-holds c = search needs
@@ -94,9 +100,11 @@ datagram-spec =
     number-requires
     cast-verdict
     time-requires
-    datagram-requires
     slice-aggregate-number-2
     number-requires-2
+    datagram-requires
+    slice-aggregate-number-3
+    number-requires-3
     loop-holds
     datagram-requires-2
     add-i

@@ -8,10 +8,10 @@ use Rattle.lister.proofs.list_entries.Statement.{statement}
 use Rattle.lister.proofs.list_entries.Tie as tie
 
 abbrev Inv-loop : tie.InvT-loop
-Inv-loop s index count image₀ state₀ start₀ n₀ image state start n = (length image ≡ 4096) × (start ≤ n * 65535)
+Inv-loop s index count answers₀ image₀ state₀ start₀ n₀ answers image state start n = (length image ≡ 4096) × (start ≤ n * 65535)
 
 abbrev μ-loop : tie.MeasureT-loop
-μ-loop s index count image₀ state₀ start₀ n₀ image state start n = count - n
+μ-loop s index count answers₀ image₀ state₀ start₀ n₀ answers image state start n = count - n
 
 device-requires : tie.Need-device-requires Inv-loop μ-loop
 device-requires c κs = search needs
@@ -48,22 +48,22 @@ cast-start c = search needs
 
 add-start : tie.Need-add-start Inv-loop μ-loop
 add-start c =
-    let h = c .before .before .before .before .before .before .loop-test .taken in
-    let k = c .before .before .before .before .before .before .before .loop .inv .1 in
-    omega (arith, c .before .before .before .before .before .entry-at .ok, c .before .before .before .before .before .before .before .before .before .before .before .fits)
+    let h = c .before .before .before .before .before .before .before .loop-test .taken in
+    let k = c .before .before .before .before .before .before .before .before .loop .inv .1 in
+    omega (arith, c .before .before .before .before .before .before .entry-at .ok, c .before .before .before .before .before .before .before .before .before .before .before .before .fits)
 
 add-n : tie.Need-add-n Inv-loop μ-loop
 add-n c =
-    let h = c .before .before .before .before .before .before .loop-test .taken in
-    omega (arith, c .before .before .before .before .before .before .before .before .before .before .before .fits)
+    let h = c .before .before .before .before .before .before .before .loop-test .taken in
+    omega (arith, c .before .before .before .before .before .before .before .before .before .before .before .before .fits)
 
 loop-less : tie.Need-loop-less Inv-loop μ-loop
 loop-less c = search needs
 
 loop-again : tie.Need-loop-again Inv-loop μ-loop
 loop-again c =
-    let k = c .before .before .before .before .before .before .before .loop .inv .1 in
-    (search needs, omega (arith, c .before .before .before .before .before .entry-at .ok))
+    let k = c .before .before .before .before .before .before .before .before .loop .inv .1 in
+    (search needs, omega (arith, c .before .before .before .before .before .before .entry-at .ok))
 
 returns : tie.Need-returns Inv-loop μ-loop
 returns c = search needs

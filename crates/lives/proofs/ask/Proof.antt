@@ -27,13 +27,13 @@ slice-relend-prefix-lend : tie.Need-slice-relend-prefix-lend
 slice-relend-prefix-lend c = search needs
 
 slice-aggregate-lend : tie.Need-slice-aggregate-lend
-slice-aggregate-lend c = sym (length-take-le _ _ (c .before .image-room .ensures))
+slice-aggregate-lend c = sym (length-take-le _ _ (c .before .before .image-room .ensures))
 
 array-borrow-prefix-out : tie.Need-array-borrow-prefix-out
 array-borrow-prefix-out c = search needs
 
 slice-aggregate-lend-2 : tie.Need-slice-aggregate-lend-2
-slice-aggregate-lend-2 c = sym (length-take-le _ _ (c .before .before .before .room .ensures))
+slice-aggregate-lend-2 c = sym (length-take-le _ _ (c .before .before .before .before .room .ensures))
 
 lend-requires : tie.Need-lend-requires
 lend-requires c κs = search needs

@@ -25,6 +25,9 @@ none-assigned-requires c κs = search needs
 starting-requires : tie.Need-starting-requires
 starting-requires c κs = search needs
 
+none-waiting-requires : tie.Need-none-waiting-requires
+none-waiting-requires c κs = search needs
+
 returns : tie.Need-returns
 unfolding firstState
 returns c = cc
@@ -40,4 +43,5 @@ first-state-spec =
     only-running-requires
     none-assigned-requires
     starting-requires
+    none-waiting-requires
     returns)

@@ -1,0 +1,3 @@
+pub mod Waiting
+pub mod Sized
+pub mod Statements
