@@ -1,4 +1,6 @@
 // The acknowledgement of a registration: when it is taken, and what it then assigns, or where it redirects to.
+#![tactic(auto)]
+
 ghost use Rattle.std.specs.Prelude.{◌≡◌};
 ghost use Rattle.ack.specs.Take.{is_awaited, is_takable, accepted_by, taken_by, acknowledged, taken_padded};
 
@@ -62,7 +64,7 @@ fn take(state: State, learnt: Learnt) -> State
 }
 
 // What an acknowledgement leaves: the state, and whether it was taken and has a padded varint.
-#[derive(Drop)]
+#[derive(Clone, Copy)]
 pub struct Acknowledged {
     pub state: State,
     pub padded: bool,

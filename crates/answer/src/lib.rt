@@ -1,4 +1,6 @@
 // The requests of step j, records 65 and 68 to 70: what each does to the images, and the response that it gets.
+#![tactic(auto)]
+
 ghost use Rattle.std.specs.Prelude.{◌≡◌};
 ghost use Rattle.loading.specs.Load.{load_answered, cancel_answered, backup_answered};
 ghost use Rattle.opening.specs.Open.{transfer_answered};
@@ -14,7 +16,7 @@ use schedule::Moment;
 use state::{Device, Images, Registration};
 
 // What running records changes beside the image buffer, and where their responses end.
-#[derive(Drop)]
+#[derive(Clone, Copy)]
 pub struct Ran {
     pub images: Images,
     pub registration: Registration,

@@ -1,4 +1,6 @@
 // What a session, a report and a GroupAssign of an acknowledgement assign.
+#![tactic(auto)]
+
 ghost use Rattle.std.specs.Prelude.{◌<◌, ◌≡◌};
 ghost use Rattle.assign.specs.Assign.{session_id_of, with_session, with_report, place_of, with_pair, regrouped};
 
@@ -7,7 +9,7 @@ use protobuf::Bytes;
 use state::{Assigned, Groups, Pair};
 
 // The groups behind an assignment: as they were, if it would need a ninth.
-#[derive(Drop)]
+#[derive(Clone, Copy)]
 pub struct Regrouped {
     pub needs_ninth: bool,
     pub groups: Groups,

@@ -5,6 +5,8 @@
 //
 // A line is a call as the program `lives` has it, with ` times=N` more; it is lent 1,280 bytes of output. It is printed by its name, or by its
 // first word, with the last answer: the outcome and the length of what was sent. The state that this leaves goes on to the next line.
+#![tactic(auto)]
+
 use agent::State;
 use libc::STDIN_FILENO;
 use script::Line;

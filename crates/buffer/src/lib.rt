@@ -2,6 +2,8 @@
 //
 // An output position may run past the end: what does not fit whole is not written, and the position
 // then is the length plus one and stays there. One test at the end tells whether everything was written.
+#![tactic(auto)]
+
 ghost use Rattle.std.specs.Prelude.{◌≡◌, ◌&&◌, ◌||◌, length, take, drop, ◌-◌};
 ghost use Rattle.std.proofs.lemmas.List.Edits.{sets};
 ghost use Rattle.buffer.specs.Put.{Put};
@@ -9,7 +11,7 @@ ghost use Rattle.buffer.specs.Same.{same_bytes};
 ghost use Rattle.buffer.specs.Stretch.{fits, stretch};
 
 // Where a stretch of bytes ends.
-#[derive(Drop)]
+#[derive(Clone, Copy)]
 pub enum Stretch {
     To(usize),
     Outside,

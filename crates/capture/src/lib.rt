@@ -1,4 +1,6 @@
 // A capture: datagrams back to back, an index of 8 bytes each, a trailer of 6. Numbers have their high bytes first.
+#![tactic(auto)]
+
 ghost use Rattle.std.specs.Prelude.{◌≡◌, ◌≤◌, drop};
 ghost use Rattle.capture.specs.Read.{byte_at, wide16, wide32, entry_in, bytes_at, end_from, index_in, capture_in, outcome_of};
 
@@ -6,14 +8,14 @@ use buffer::Stretch;
 use schedule::Point;
 
 // Where the index begins and how many entries it has, or that the file is none.
-#[derive(Drop)]
+#[derive(Clone, Copy)]
 pub enum Capture {
     Index(u32, u16),
     Malformed,
 }
 
 // An entry: its time, the host's verdict, and its datagram's length.
-#[derive(Drop)]
+#[derive(Clone, Copy)]
 pub struct Entry {
     pub time: Point,
     pub verdict: u8,

@@ -2,6 +2,8 @@
 //
 // The captures and their listings were made by an independent model of document 01, each for one part of it; the output
 // to meet is those listings in the order of the arguments.
+#![tactic(auto)]
+
 
 // Reads a file whole and lists it; one byte more than a capture may have, so that a longer one is told.
 fn list_file(path: &[u8]) {

@@ -1,5 +1,7 @@
 // The CoAP frame (RFC 7252): reading a datagram's header and options, and the heads of what the agent sends.
 // Options and payload stay where they are: positions say where they stand.
+#![tactic(auto)]
+
 mod write;
 
 ghost use Rattle.std.specs.Prelude.{◌≡◌, length};
@@ -27,14 +29,14 @@ pub const NOT_FOUND: u8 = 132;
 pub const NOT_ALLOWED: u8 = 133;
 
 // An option's delta or length, and where the bytes after it begin.
-#[derive(Drop)]
+#[derive(Clone, Copy)]
 pub enum Extended {
     Value(u64, usize),
     Malformed,
 }
 
 // An option: its number, and its value from `start` up to `end`, where the next option begins.
-#[derive(Drop)]
+#[derive(Clone, Copy)]
 pub struct CoapOption {
     pub number: u64,
     pub start: usize,
@@ -42,7 +44,7 @@ pub struct CoapOption {
 }
 
 // What stands where an option may: one, or the payload (at the datagram's end where there is none).
-#[derive(Drop)]
+#[derive(Clone, Copy)]
 pub enum Next {
     Option(CoapOption),
     Payload(usize),
@@ -50,14 +52,14 @@ pub enum Next {
 }
 
 // Where the payload begins.
-#[derive(Drop)]
+#[derive(Clone, Copy)]
 pub enum Ending {
     Payload(usize),
     Malformed,
 }
 
 // A well-formed frame. Its options begin at `options`, its payload at `payload`.
-#[derive(Drop)]
+#[derive(Clone, Copy)]
 pub struct Frame {
     pub kind: u8,
     pub code: u8,
@@ -68,7 +70,7 @@ pub struct Frame {
 
 // A datagram: a frame; one with a format error, of which the type and the message id are still known; or one
 // too short for a header or of another version.
-#[derive(Drop)]
+#[derive(Clone, Copy)]
 pub enum Datagram {
     Frame(Frame),
     Malformed(u8, u16),

@@ -1,4 +1,6 @@
 // Records copied as bytes: those of an id or all others, from the host's store or from the agent's own.
+#![tactic(auto)]
+
 ghost use Rattle.std.specs.Prelude.{◌≡◌, ◌+◌, ◌≤◌, length, []};
 ghost use Rattle.buffer.specs.Pick.{pick};
 ghost use Rattle.buffer.specs.Put.{Appended};
@@ -9,7 +11,7 @@ use decimal::Ids;
 use tlv::Taken;
 
 // Which records are copied: those of an id, or all others.
-#[derive(Drop)]
+#[derive(Clone, Copy)]
 pub enum Choice {
     Only(u64),
     Except(u64),

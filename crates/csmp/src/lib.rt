@@ -1,4 +1,6 @@
 // The messages of the CSMP draft: their tables (specs/Tables.antt), the values of theirs that the agent keeps and shows, and what values share.
+#![tactic(auto)]
+
 mod rows;
 mod values;
 
@@ -10,14 +12,14 @@ pub use rows::{
 pub use values::{at_most, field_is, interval, interval_number, moment, moment_number};
 
 // A session id.
-#[derive(Drop)]
+#[derive(Clone, Copy)]
 pub struct SessionId {
     pub bytes: [u8; 64],
     pub len: usize,
 }
 
 // A file name that may be missing.
-#[derive(Drop)]
+#[derive(Clone, Copy)]
 pub struct Name {
     pub given: bool,
     pub bytes: [u8; 128],
@@ -25,7 +27,7 @@ pub struct Name {
 }
 
 // A version that may be missing.
-#[derive(Drop)]
+#[derive(Clone, Copy)]
 pub struct Version {
     pub given: bool,
     pub bytes: [u8; 32],
@@ -33,7 +35,7 @@ pub struct Version {
 }
 
 // A hash that may be missing.
-#[derive(Drop)]
+#[derive(Clone, Copy)]
 pub struct Hash {
     pub given: bool,
     pub bytes: [u8; 32],
@@ -41,7 +43,7 @@ pub struct Hash {
 
 // The image that a TransferRequest opened. Its bitmap has a bit for each block, block 0 the top bit of the first byte;
 // `held` is how many blocks are held.
-#[derive(Drop)]
+#[derive(Clone, Copy)]
 pub struct Image {
     pub hash: [u8; 32],
     pub name: Name,
@@ -53,7 +55,7 @@ pub struct Image {
 }
 
 // The ids of a TlvIndex, ascending: the first `count` of `list`.
-#[derive(Drop)]
+#[derive(Clone, Copy)]
 pub struct Index {
     pub list: [u32; 68],
     pub count: usize,

@@ -1,4 +1,6 @@
 // Decimal ids: 0, or digits without a leading zero, below 2^32.
+#![tactic(auto)]
+
 ghost use Rattle.std.specs.Prelude.{◌≡◌, true, length, ◌+◌};
 ghost use Rattle.buffer.specs.Put.{Put};
 ghost use Rattle.buffer.specs.Stretch.{fits};
@@ -6,7 +8,7 @@ ghost use Rattle.decimal.specs.Decimal.{id_of, digits_of, decimal};
 ghost use Rattle.decimal.specs.Ids.{no_ids, pushed};
 
 // What a text says.
-#[derive(Drop)]
+#[derive(Clone, Copy)]
 pub enum Id {
     Given(u32),
     Nothing,
@@ -93,7 +95,7 @@ fn write(out: &mut [u8], at: usize, end: usize, v: u32) -> usize
 }
 
 // A list of at most 32 ids: the first `count` of `list`.
-#[derive(Drop)]
+#[derive(Clone, Copy)]
 pub struct Ids {
     pub list: [u32; 32],
     pub count: usize,

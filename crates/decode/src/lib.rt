@@ -1,5 +1,7 @@
 // Reading the messages of the CSMP draft. A reader says what the walk tells of a value and, of each field, whether it is there and what it is;
 // bytes stay in the value, and positions say where.
+#![tactic(auto)]
+
 mod read;
 
 use message::Reading;
@@ -8,7 +10,7 @@ pub use read::{read_group, read_redirect, read_session, read_signature, read_val
 use schedule::Moment;
 
 // NMSRedirectRequest, record 6.
-#[derive(Drop)]
+#[derive(Clone, Copy)]
 pub struct Redirect {
     pub reading: Reading,
     pub url: Bytes,
@@ -16,14 +18,14 @@ pub struct Redirect {
 }
 
 // SessionID, record 7.
-#[derive(Drop)]
+#[derive(Clone, Copy)]
 pub struct Session {
     pub reading: Reading,
     pub id: Bytes,
 }
 
 // GroupAssign and GroupMatch, records 55 and 57.
-#[derive(Drop)]
+#[derive(Clone, Copy)]
 pub struct Group {
     pub reading: Reading,
     pub kind: Number,
@@ -31,7 +33,7 @@ pub struct Group {
 }
 
 // SignatureValidity, record 76.
-#[derive(Drop)]
+#[derive(Clone, Copy)]
 pub struct Validity {
     pub reading: Reading,
     pub not_before: Moment,

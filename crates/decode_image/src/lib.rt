@@ -1,5 +1,7 @@
 // Reading the messages of the CSMP draft that are about images: what the walk tells of a value and, of each field, whether it is there and what it
 // is; bytes stay in the value, and positions say where.
+#![tactic(auto)]
+
 ghost use Rattle.std.specs.Prelude.{◌≡◌, []};
 ghost use Rattle.decode_image.specs.Read.{transfer_of, block_of, load_of, hash_of};
 
@@ -8,7 +10,7 @@ use protobuf::{Bytes, Number};
 use schedule::Moment;
 
 // TransferRequest, record 65.
-#[derive(Drop)]
+#[derive(Clone, Copy)]
 pub struct Transfer {
     pub reading: Reading,
     pub hw_id: Bytes,
@@ -21,7 +23,7 @@ pub struct Transfer {
 }
 
 // ImageBlock, record 67.
-#[derive(Drop)]
+#[derive(Clone, Copy)]
 pub struct Block {
     pub reading: Reading,
     pub hash: Bytes,
@@ -30,7 +32,7 @@ pub struct Block {
 }
 
 // LoadRequest, record 68.
-#[derive(Drop)]
+#[derive(Clone, Copy)]
 pub struct Load {
     pub reading: Reading,
     pub hash: Bytes,
@@ -38,7 +40,7 @@ pub struct Load {
 }
 
 // CancelLoadRequest and SetBackupRequest, records 69 and 70.
-#[derive(Drop)]
+#[derive(Clone, Copy)]
 pub struct ImageHash {
     pub reading: Reading,
     pub hash: Bytes,

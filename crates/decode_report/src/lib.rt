@@ -1,4 +1,6 @@
 // Reading a ReportSubscribe, the message of the CSMP draft whose fields list ids.
+#![tactic(auto)]
+
 ghost use Rattle.std.specs.Prelude.{◌≡◌, length, leb, ◌≤◌};
 ghost use Rattle.decode_report.specs.Report.{with_entry, with_field, listed_in, report_of};
 
@@ -8,7 +10,7 @@ use protobuf::{Field, Step};
 use schedule::Interval;
 
 // ReportSubscribe, record 13: the primary report. The heartbeat's fields are checked, but not told.
-#[derive(Drop)]
+#[derive(Clone, Copy)]
 pub struct Report {
     pub reading: Reading,
     pub interval: Interval,

@@ -1,4 +1,6 @@
 // The call that sends what was delayed: the answer that is due, as a datagram of the agent's own.
+#![tactic(auto)]
+
 ghost use Rattle.std.specs.Prelude.{◌≡◌, [], ◌≤◌, length, take};
 ghost use Rattle.buffer.specs.Put.{Put};
 ghost use Rattle.calls.specs.Datagram.{with_waiting};
@@ -13,7 +15,7 @@ use state::{Delayed, State, Url, Waiting, What};
 
 // What the call answers: document 01's outcome, the length of what was written to the output, the URL that it goes to (of length 0 where it goes to
 // /c of the URL held or nothing was written), and the state after it.
-#[derive(Drop)]
+#[derive(Clone, Copy)]
 pub struct DueAnswer {
     pub outcome: u32,
     pub len: usize,

@@ -1,5 +1,7 @@
 // Writing the records of the CSMP draft that are about images: answers, and what images there are. A value is put together first, so that its
 // length is known; a record that does not fit whole is not written, and the position tells.
+#![tactic(auto)]
+
 ghost use Rattle.buffer.specs.Put.{Put};
 ghost use Rattle.encode_image.specs.Write.{response_record, running_record, open_record, backup_record};
 

@@ -1,4 +1,6 @@
 // What the answers about images share: the response codes, the hashes and texts of a request, the images with an answer.
+#![tactic(auto)]
+
 mod place;
 
 ghost use Rattle.std.specs.Prelude.{◌≡◌};
@@ -8,7 +10,7 @@ pub use place::{echo, hash_at, is_given, is_hash, name_at, same_hash, version_at
 use state::Images;
 
 // The images after a record, and the answer.
-#[derive(Drop)]
+#[derive(Clone, Copy)]
 pub struct Answered {
     pub images: Images,
     pub answer: u32,

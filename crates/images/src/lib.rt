@@ -1,4 +1,6 @@
 // FirmwareImageInfo, one record for each image that is held.
+#![tactic(auto)]
+
 ghost use Rattle.std.specs.Prelude.{◌≡◌};
 ghost use Rattle.buffer.specs.Put.{Appended};
 ghost use Rattle.images.specs.Images.{load_time_of, map_length, open_shown, backup_shown, images_shown};

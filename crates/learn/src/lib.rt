@@ -1,4 +1,6 @@
 // What an acknowledgement of a registration says: one walk over its records.
+#![tactic(auto)]
+
 ghost use Rattle.std.specs.Prelude.{◌≡◌};
 ghost use Rattle.learn.specs.Learn.{learnt_from, padded_in};
 
@@ -8,7 +10,7 @@ use state::{Assigned, Device, Registration};
 use tlv::Taken;
 
 // What a walk over an acknowledgement's payload has learnt, and whether a varint that it read is padded.
-#[derive(Drop)]
+#[derive(Clone, Copy)]
 pub struct Learned {
     pub learnt: Learnt,
     pub padded: bool,

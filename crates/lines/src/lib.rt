@@ -1,4 +1,6 @@
 // The parts of a line on standard output, for every program.
+#![tactic(auto)]
+
 use libc::STDOUT_FILENO;
 
 pub fn word(s: &[u8]) {

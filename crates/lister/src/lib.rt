@@ -1,4 +1,6 @@
 // The listing of a capture: a header, then a line for each entry.
+#![tactic(auto)]
+
 mod text;
 
 ghost use Rattle.std.specs.Prelude.{◌≡◌};
@@ -9,7 +11,7 @@ use agent::{Length, Point, Settings, Setup, State};
 use capture::{Capture, Entry};
 
 // A line's length, and the state behind it.
-#[derive(Drop)]
+#[derive(Clone, Copy)]
 pub struct Line {
     pub len: usize,
     pub state: State,

@@ -1,4 +1,6 @@
 // Lists the capture on standard input: each datagram's number, outcome, reply length and reply.
+#![tactic(auto)]
+
 use libc::STDIN_FILENO;
 
 fn main() {

@@ -10,6 +10,8 @@
 // damaged; steps a to i, refusals and resets; every answer to records 65 and 68 to 70; TlvIndex, ids by path and by
 // query, copied spellings, replies of 1,280 bytes and one more; stores at their limits; record 75 in every state of the
 // images; groups and reports as acknowledgements assign them.
+#![tactic(auto)]
+
 mod show;
 
 ghost use Rattle.std.specs.Prelude.{◌≤◌};

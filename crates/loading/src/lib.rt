@@ -1,4 +1,6 @@
 // LoadRequest, CancelLoadRequest and SetBackupRequest, records 68 to 70: the first answer that applies; and a boot.
+#![tactic(auto)]
+
 ghost use Rattle.std.specs.Prelude.{◌≡◌};
 ghost use Rattle.loading.specs.Load.{is_backup, is_pending, open_fault, source_fault, pending_fault, loads, load_taken, cancels, cancel_taken, backs, backup_taken, booted};
 

@@ -3,6 +3,8 @@
 // A table is a list of numbers. A row is the number of a field, its kind, and how many numbers the table of the message that it holds takes;
 // that table stands behind it. What is found of a row stands at the same place of a list as long: how many fields there were; of the last
 // one its value, or where its bytes start; where they end.
+#![tactic(auto)]
+
 ghost use Rattle.std.specs.Prelude.{◌≡◌, ◌+◌, ◌^◌, ◌≤◌, ◌<◌, length, true, false};
 ghost use Rattle.protobuf.specs.Field.{bytes_of};
 ghost use Rattle.message.specs.Read.{wire_of, row_in, count_more, first_of, noted, unpadded, joined, sealed, plain_read, field_read, message_read, read_into, Scanned, limited, number_of, flag_of, place_of};
@@ -23,14 +25,14 @@ pub const STRINGS: u32 = 10;
 pub const PART: u32 = 11;
 
 // What the walk over a message tells of it as a whole: whether it can be read, and whether a varint that was read in it is padded.
-#[derive(Drop)]
+#[derive(Clone, Copy)]
 pub struct Reading {
     pub readable: bool,
     pub padded: bool,
 }
 
 // What a table says of a field number: the kind of its row, where the row stands, and where what it holds ends.
-#[derive(Drop)]
+#[derive(Clone, Copy)]
 pub enum Known {
     Row(u32, usize, usize),
     Nothing,

@@ -1,4 +1,6 @@
 // One record of an acknowledgement.
+#![tactic(auto)]
+
 ghost use Rattle.std.specs.Prelude.{◌≡◌, ℕ, List};
 ghost use Rattle.decode.specs.Read.{redirect_of, session_of, group_of, validity_of, signature_of};
 ghost use Rattle.decode_report.specs.Report.{report_of};
@@ -12,7 +14,7 @@ use state::{Assigned, Device, Registration};
 
 // What a walk over an acknowledgement has learnt: whether it can be read, is signed, is not valid now; whether a redirect was followed and
 // registration after it; what was assigned; how many complete GroupAssigns there were, and whether one of them would need a ninth group.
-#[derive(Drop)]
+#[derive(Clone, Copy)]
 pub struct Learnt {
     pub readable: bool,
     pub signed: bool,

@@ -1,4 +1,6 @@
 // TransferRequest, record 65: the first answer that applies.
+#![tactic(auto)]
+
 ghost use Rattle.std.specs.Prelude.{◌≡◌};
 ghost use Rattle.opening.specs.Open.{sized_texts, is_whole, is_ours, number_or0, fault_of, opened_by, replaced, opens, transfer_taken};
 

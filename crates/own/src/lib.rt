@@ -1,4 +1,6 @@
 // The agent's own records, written one after the other: 13, 18, 58, 75.
+#![tactic(auto)]
+
 ghost use Rattle.std.specs.Prelude.{◌≡◌, ◌≤◌, length, take};
 ghost use Rattle.buffer.specs.Put.{Appended};
 ghost use Rattle.state.specs.Groups.{held_pairs};

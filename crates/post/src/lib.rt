@@ -1,4 +1,6 @@
 // Judging a posted payload: steps e to i, before any record runs.
+#![tactic(auto)]
+
 mod value;
 
 ghost use Rattle.std.specs.Prelude.{◌≡◌, ℕ, ◌≤◌, List};
@@ -15,7 +17,7 @@ pub use value::is_expired;
 // What a walk over a payload has seen: how many records, whether their values can be read, whether one is a
 // Signature, whether one's validity does not hold now, whether there are GroupMatches and one names a held group,
 // whether one may not be posted.
-#[derive(Drop)]
+#[derive(Clone, Copy)]
 pub struct Seen {
     pub records: usize,
     pub readable: bool,
@@ -27,7 +29,7 @@ pub struct Seen {
 }
 
 // An error to answer, or that the records may run.
-#[derive(Drop)]
+#[derive(Clone, Copy)]
 pub enum Judgement {
     Error(u8),
     Run,
@@ -35,7 +37,7 @@ pub enum Judgement {
 
 // What a walk leaves: what it saw, whether a varint that it read is padded, and of the ImageBlock that it read last where its value stands and what
 // it says, so that it need not be read again where it is taken.
-#[derive(Drop)]
+#[derive(Clone, Copy)]
 pub struct Looked {
     pub seen: Seen,
     pub padded: bool,

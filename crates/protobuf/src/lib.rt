@@ -1,4 +1,6 @@
 // Fields of Protocol Buffers messages, read from a lent message and written. Nothing is copied out: a field says where its bytes stand.
+#![tactic(auto)]
+
 mod write;
 
 ghost use Rattle.std.specs.Prelude.{◌≡◌, length};
@@ -12,7 +14,7 @@ pub use write::{put_bytes, put_bytes_if, put_given, put_head, put_number};
 
 // A field: its number and wire type, its value where it is a varint, and its bytes from `start` up to `end`,
 // where the next field begins; and whether its tag, its length or its number is padded. A varint has no bytes.
-#[derive(Drop)]
+#[derive(Clone, Copy)]
 pub struct Field {
     pub number: u32,
     pub wire: u8,
@@ -23,27 +25,27 @@ pub struct Field {
 }
 
 // What stands at a position of a message.
-#[derive(Drop)]
+#[derive(Clone, Copy)]
 pub enum Step {
     Field(Field),
     Unreadable,
 }
 
 // A number that may be missing: absent is not 0.
-#[derive(Drop)]
+#[derive(Clone, Copy)]
 pub enum Number {
     Given(u32),
     Absent,
 }
 
-#[derive(Drop)]
+#[derive(Clone, Copy)]
 pub enum Flag {
     Given(bool),
     Absent,
 }
 
 // Bytes that may be missing: their start and their end.
-#[derive(Drop)]
+#[derive(Clone, Copy)]
 pub enum Bytes {
     At(usize, usize),
     Absent,

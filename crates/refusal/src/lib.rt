@@ -1,4 +1,6 @@
 // House refusals of the calls: the tests in number order, and the number of the first that applies.
+#![tactic(auto)]
+
 ghost use Rattle.std.specs.Prelude.{◌≡◌};
 ghost use Rattle.refusal.specs.Refusal.{refusal_of, own_refusal};
 

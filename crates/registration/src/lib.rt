@@ -1,4 +1,6 @@
 // Registration: what starts it again, how long it waits, what its datagrams change.
+#![tactic(auto)]
+
 mod round;
 mod wait;
 

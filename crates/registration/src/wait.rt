@@ -54,7 +54,7 @@ fn double(interval: Length, largest: Length) -> Length
 }
 
 // The interval of the next round, and the largest one.
-#[derive(Drop)]
+#[derive(Clone, Copy)]
 pub struct Schedule {
     pub interval: Length,
     pub largest: Length,

@@ -1,4 +1,6 @@
 // What a call answers, and the replies to a datagram: they go only to a CON.
+#![tactic(auto)]
+
 ghost use Rattle.std.specs.Prelude.{◌≡◌};
 ghost use Rattle.buffer.specs.Put.{Appended};
 ghost use Rattle.reply.specs.Reply.{reply_of, reply_to};
@@ -6,7 +8,7 @@ ghost use Rattle.reply.specs.Reply.{reply_of, reply_to};
 use state::State;
 
 // What a call answers: document 01's outcome, the length of what was written to the output, and the state after it.
-#[derive(Drop)]
+#[derive(Clone, Copy)]
 pub struct Answer {
     pub outcome: u32,
     pub len: usize,
@@ -15,7 +17,7 @@ pub struct Answer {
 
 // What a datagram call answers: the same, and whether a varint that was read in the payload is padded, where the records ran or the
 // acknowledgement was taken.
-#[derive(Drop)]
+#[derive(Clone, Copy)]
 pub struct DatagramAnswer {
     pub outcome: u32,
     pub len: usize,

@@ -1,4 +1,6 @@
 // Datagrams of the agent's own: rounds of registration, and reports.
+#![tactic(auto)]
+
 ghost use Rattle.std.specs.Prelude.{◌≡◌, length};
 ghost use Rattle.calls.specs.Own.{with_registration, round_of, backoff_in, rest_in, is_positive, reports, report_of};
 ghost use Rattle.outgoing.specs.declared.Report.TheVariants.{Primary};
@@ -11,7 +13,7 @@ use schedule::{Interval, Length, Point};
 use state::{Registration, State};
 
 // What a round answers: the wait before the datagram is sent, and the wait behind it.
-#[derive(Drop)]
+#[derive(Clone, Copy)]
 pub struct RoundAnswer {
     pub answer: Answer,
     pub backoff: Length,

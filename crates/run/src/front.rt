@@ -12,7 +12,7 @@ use tlv::Taken;
 
 // What a post began with: the code of its reply, where the records stand that are still to run, the images, and whether the records may run
 // and a varint that was read is padded.
-#[derive(Drop)]
+#[derive(Clone, Copy)]
 pub struct Begun {
     pub code: u8,
     pub at: usize,
@@ -21,7 +21,7 @@ pub struct Begun {
 }
 
 // The number of blocks held, and where the first record stands that is still to run.
-#[derive(Drop)]
+#[derive(Clone, Copy)]
 pub struct Reached {
     pub held: u32,
     pub at: usize,

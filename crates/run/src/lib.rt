@@ -1,5 +1,7 @@
 // A posted payload: it is judged (steps e to i), and its records then run in their order (step j). Blocks at its front need little of the
 // state, so they run first and by themselves; the records from the first on that does more, if there is one, run on all that a record may change.
+#![tactic(auto)]
+
 mod front;
 
 ghost use Rattle.std.specs.Prelude.{◌+◌, ◌*◌, ◌≤◌, ◌≡◌, length};

@@ -1,4 +1,6 @@
 // A script of calls, a line each: words, values behind their keys, and what calls are given.
+#![tactic(auto)]
+
 mod call;
 
 ghost use Rattle.std.specs.Prelude.{◌≤◌, ◌<◌, length};
@@ -7,7 +9,7 @@ pub use call::{image_room, set_up, time, which};
 use decimal::Id;
 
 // Where a line stands in the text: from its begin to behind its line feed.
-#[derive(Drop)]
+#[derive(Clone, Copy)]
 pub struct Line {
     pub start: usize,
     pub end: usize,

@@ -1,4 +1,6 @@
 // What the agent keeps, by value, in a few parts; and setup, which makes the first state.
+#![tactic(auto)]
+
 mod setup;
 
 use csmp::{Hash, Image, SessionId};
@@ -7,21 +9,21 @@ use schedule::{Interval, Length, Point};
 pub use setup::{Settings, Setup, no_pending, set_up, url_of};
 
 // A hardware id: the first `len` of `bytes`.
-#[derive(Drop)]
+#[derive(Clone, Copy)]
 pub struct HwId {
     pub bytes: [u8; 32],
     pub len: usize,
 }
 
 // A URL: the first `len` of `bytes`.
-#[derive(Drop)]
+#[derive(Clone, Copy)]
 pub struct Url {
     pub bytes: [u8; 128],
     pub len: usize,
 }
 
 // What setup gives; `home` is the URL that a boot restores. Whether padding is refused may change later, nothing else.
-#[derive(Drop)]
+#[derive(Clone, Copy)]
 pub struct Device {
     pub hw_id: HwId,
     pub vendor_hw_id: HwId,
@@ -35,7 +37,7 @@ pub struct Device {
 }
 
 // A load that was accepted: the hash that will run, and when.
-#[derive(Drop)]
+#[derive(Clone, Copy)]
 pub struct Pending {
     pub is: bool,
     pub hash: [u8; 32],
@@ -43,7 +45,7 @@ pub struct Pending {
 }
 
 // The images: the running one, the open one, the load that is pending, the backup.
-#[derive(Drop)]
+#[derive(Clone, Copy)]
 pub struct Images {
     pub running: [u8; 32],
     pub open: bool,
@@ -53,21 +55,21 @@ pub struct Images {
 }
 
 // A group: its type and its id.
-#[derive(Drop)]
+#[derive(Clone, Copy)]
 pub struct Pair {
     pub kind: u32,
     pub id: u32,
 }
 
 // The groups: the first `count` of `list`.
-#[derive(Drop)]
+#[derive(Clone, Copy)]
 pub struct Groups {
     pub list: [Pair; 8],
     pub count: usize,
 }
 
 // What the management system assigned: groups, a session, what to report.
-#[derive(Drop)]
+#[derive(Clone, Copy)]
 pub struct Assigned {
     pub groups: Groups,
     pub in_session: bool,
@@ -78,7 +80,7 @@ pub struct Assigned {
 }
 
 // Registration: whether it was accepted, the round whose acknowledgement is awaited, the interval of the next one.
-#[derive(Drop)]
+#[derive(Clone, Copy)]
 pub struct Registration {
     pub accepted: bool,
     pub awaited: bool,
@@ -90,7 +92,7 @@ pub struct Registration {
 }
 
 // What an answer that waits is to have: TlvIndex; the records of an id; those of several ids; responses.
-#[derive(Drop)]
+#[derive(Clone, Copy)]
 pub enum What {
     Index,
     Record(u32),
@@ -100,7 +102,7 @@ pub enum What {
 
 // An answer that waits so long from a point on. The URL that it goes to, if it has one, and the text of several ids or the responses stand in a
 // buffer that the host lends, at its slot: so many bytes of the one, so many of the other.
-#[derive(Drop)]
+#[derive(Clone, Copy)]
 pub struct Delayed {
     pub from: Point,
     pub wait: Length,
@@ -111,13 +113,13 @@ pub struct Delayed {
 }
 
 // The answers that wait, in the order in which they came: the first `count` of `list`. Those behind them have the slots that are free.
-#[derive(Drop)]
+#[derive(Clone, Copy)]
 pub struct Waiting {
     pub list: [Delayed; 4],
     pub count: usize,
 }
 
-#[derive(Drop)]
+#[derive(Clone, Copy)]
 pub struct State {
     pub device: Device,
     pub images: Images,

@@ -10,7 +10,7 @@ use csmp::{Hash, Image, Name, SessionId, Version};
 use schedule::{Interval, Length, Point};
 
 // The numbers and switches of a setup.
-#[derive(Drop)]
+#[derive(Clone, Copy)]
 pub struct Settings {
     pub image_len: u32,
     pub interval_min: Length,
@@ -21,7 +21,7 @@ pub struct Settings {
 }
 
 // What setup answers: outcome 0 and the first state, or 11 and a fixed state that no call should be given.
-#[derive(Drop)]
+#[derive(Clone, Copy)]
 pub struct Setup {
     pub outcome: u32,
     pub state: State,

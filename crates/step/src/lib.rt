@@ -1,4 +1,6 @@
 // Step j: what one record does, and the response that it gets.
+#![tactic(auto)]
+
 ghost use Rattle.std.specs.Prelude.{◌≡◌};
 ghost use Rattle.registration.specs.Redirect.{redirected};
 ghost use Rattle.step.specs.Step.{world_of, block_taken, needs_more, is_request, Passed, Stepped};

@@ -1,11 +1,13 @@
 // The host's store: records that the agent shows and sends but does not own. It is checked on every call that has one.
+#![tactic(auto)]
+
 ghost use Rattle.std.specs.Prelude.{◌≡◌, ◌≤◌};
 ghost use Rattle.store.specs.Store.{reserved, noted, fine, acceptable};
 
 use tlv::Taken;
 
 // What a walk over the store has seen.
-#[derive(Drop)]
+#[derive(Clone, Copy)]
 pub struct Seen {
     pub records: usize,
     pub ids: usize,

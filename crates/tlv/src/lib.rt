@@ -1,5 +1,7 @@
 // Records: a varint type, a varint length, a value. A reader walks the payload it was lent and hands
 // over where a value stands; nothing is copied out.
+#![tactic(auto)]
+
 mod reader;
 
 ghost use Rattle.buffer.specs.Put.{Put};
@@ -9,7 +11,7 @@ pub use reader::take_record;
 
 // A record of a payload: its type, its value's bytes from `start` up to `end`, where the next record begins, and whether its type or its length
 // is padded.
-#[derive(Drop)]
+#[derive(Clone, Copy)]
 pub struct Record {
     pub kind: u64,
     pub start: usize,
@@ -18,7 +20,7 @@ pub struct Record {
 }
 
 // What stands at a position.
-#[derive(Drop)]
+#[derive(Clone, Copy)]
 pub enum Taken {
     Record(Record),
     Unreadable,

@@ -6,7 +6,7 @@ use crate::{Record, Taken};
 use varint::{Delimited, Varint};
 
 // A payload that was lent, and where a walk over it stands.
-#[derive(Drop)]
+#[derive(Clone, Copy)]
 pub struct Reader<'a> {
     pub payload: &'a [u8],
     pub at: usize,

@@ -1,4 +1,6 @@
 // One download: block arithmetic, the bitmap of the blocks held, and blocks taken into the image buffer.
+#![tactic(auto)]
+
 mod bitmap;
 mod block;
 
@@ -10,7 +12,7 @@ pub use block::take_block;
 use csmp::Image;
 
 // How far a download is: blocks held, blocks in all, and whether none is missing.
-#[derive(Drop)]
+#[derive(Clone, Copy)]
 pub struct Progress {
     pub held: u32,
     pub blocks: u32,

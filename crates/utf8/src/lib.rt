@@ -1,17 +1,19 @@
 // Whether bytes are text: well-formed UTF-8 by the grammar of RFC 3629, section 4, in one pass.
+#![tactic(auto)]
+
 ghost use Rattle.std.specs.Prelude.{◌≡◌};
 ghost use Rattle.utf8.specs.Utf8.{forms, behind, after, is_utf8};
 ghost use Rattle.utf8.specs.Pass.{owed, owed_by};
 
 // What the character that was begun still has: how many bytes, and the range of the next. Those behind it are tails, 80 to BF.
-#[derive(Drop)]
+#[derive(Clone, Copy)]
 pub struct Rest {
     pub count: u8,
     pub low: u8,
     pub high: u8,
 }
 
-#[derive(Drop)]
+#[derive(Clone, Copy)]
 pub enum Step {
     Left(Rest),
     Malformed,

@@ -1,4 +1,6 @@
 // Varints: numbers in bytes of seven bits, the lowest first.
+#![tactic(auto)]
+
 ghost use Rattle.std.specs.Prelude.{ℕ, ◌^◌, ◌≤◌, ◌<◌, ◌≡◌, length, drop, Bool, true};
 ghost use Rattle.buffer.specs.Put.{Put};
 ghost use Rattle.buffer.specs.Stretch.{fits};
@@ -7,14 +9,14 @@ ghost use Rattle.varint.specs.Varint.{more, spelt, varint_at, varint, two, delim
 use buffer::Stretch;
 
 // What stands at a position: a number, where the next byte is, and whether its spelling is padded, longer than the shortest; or nothing readable.
-#[derive(Drop)]
+#[derive(Clone, Copy)]
 pub enum Varint {
     Number(u64, usize, bool),
     Unreadable,
 }
 
 // Where length-delimited bytes stand: their start and their end, and whether their length is padded.
-#[derive(Drop)]
+#[derive(Clone, Copy)]
 pub enum Delimited {
     At(usize, usize, bool),
     Unreadable,

@@ -3,6 +3,8 @@
 // Each record on standard input holds one vector, a record itself, and its type says which kind of vector that is: 1 the
 // fields of a message (`fields`), 2 a datagram (`frames`), 3 a message of the CSMP draft (`messages`), 4 bytes that may be text
 // (`texts`). No line of the output to meet was taken from this program.
+#![tactic(auto)]
+
 mod fields;
 mod frames;
 mod made;

@@ -1,5 +1,7 @@
 // The answers that wait, document 02, Q-1: up to four, in the order in which they came. What is long of them stands in a buffer that the host lends, four
 // slots of 1,184 bytes: a URL of up to 128, and behind it the text of up to 32 ids, which has at most 351 bytes, or up to 24 responses, at most 1,056.
+#![tactic(auto)]
+
 ghost use Rattle.std.specs.Prelude.{◌≡◌};
 ghost use Rattle.waiting.specs.Waiting.{wait_of, is_full, url_at, held_at, url_in, held_in, kept, kept_bytes, over_at, earliest, without, due_of};
 
@@ -7,7 +9,7 @@ use schedule::{Length, Point};
 use state::{Delayed, Waiting, What};
 
 // The answer that is due, if one is, and those that wait on.
-#[derive(Drop)]
+#[derive(Clone, Copy)]
 pub struct Due {
     pub is: bool,
     pub answer: Delayed,
