@@ -1,0 +1,264 @@
+#!/usr/bin/env python3
+"""Turns the proofs of one crate, proofs/F/Proof.antt, into Invariants.antt and Answers.antt.
+
+usage: answers.py CRATE NAMES.json   (at the top; NAMES.json as `rt check --generated DIR --old-names` writes it in the crate's folder)
+
+Each answer keeps its text under the goal's new name, with the paths to known facts respelled. What only says `search rules` is left to the check.
+"""
+
+import glob
+import json
+import os
+import re
+import sys
+
+
+def norm(s):
+    s = s.replace("_", "-").lower()
+    s = re.sub(r"^(overflow|nonzero)-", "", s)
+    s = s.replace("slice-bounds", "part").replace("shared-slice-read", "bounds").replace("slice-write", "bounds").replace("slice-read", "bounds")
+    return s.replace("-", "").replace("lem", "")
+
+
+def blocks(text):
+    """Top-level declarations: (comment lines, signature, body lines, name)."""
+    out, comment, cur = [], [], None
+    for line in text.split("\n"):
+        if line.startswith("--"):
+            if cur:
+                out.append(cur)
+                cur = None
+            comment.append(line)
+        elif not line.strip():
+            if cur:
+                out.append(cur)
+                cur = None
+        elif line[0] not in " \t)}]":
+            m = re.match(r"(?:abbrev |unfoldable |opaque )?(?:pub )?(\S+)((?: \S+)*) :(?: |$)", line)
+            head = line.split()[0]
+            if line.startswith("use "):
+                if cur:
+                    out.append(cur)
+                out.append([comment, [line], "use"])
+                comment, cur = [], None
+                continue
+            if cur and (line.startswith("unfolding ") or line.startswith("where") or (cur[2] == head) or head in cur[3]):
+                cur[1].append(line)
+            elif m:
+                if cur:
+                    out.append(cur)
+                name = m.group(1)
+                cur = [comment, [line], name, {name}]
+                comment = []
+            elif cur:
+                cur[1].append(line)
+            else:
+                cur = [comment, [line], head, {head}]
+                comment = []
+        elif cur:
+            cur[1].append(line)
+        else:
+            cur = [comment, [line], "", set()]
+            comment = []
+    if cur:
+        out.append(cur)
+    return out
+
+
+def lent_parameters():
+    """The `&mut` parameters of each function of the repository, by its path."""
+    out = {}
+    for p in glob.glob("crates/*/src/**/*.rt", recursive=True):
+        crate = p.split("/")[1]
+        rest = p.split("/src/")[1][:-3].replace("/", "::")
+        at = [crate] + ([] if rest in ("lib", "main") else [rest])
+        src = re.sub(r"//.*", "", open(p).read())
+        for m in re.finditer(r"\bfn (\w+)(?:<[^>]*>)?\(([^)]*)\)", src):
+            lent = [a.split(":")[0].strip() for a in m.group(2).split(",") if re.search(r":\s*&('\w+ )?mut ", a)]
+            out["::".join(at + [m.group(1)])] = lent
+    return out
+
+
+LENT = lent_parameters()
+
+
+class Fn:
+    def __init__(self, of):
+        self.of = of
+        self.place = {}
+        for p in of["places"]:
+            self.place.setdefault(p[0], p)
+        self.needs = of["needs"]
+        self.at = [a[0] for a in of["asked_at"]]
+        self.loops = {norm(l[0][0]): (l[0][1], l[1]) for l in of["loops"]}
+
+    def chain(self, place):
+        while place in self.place:
+            yield self.place[place]
+            place = self.place[place][1]
+
+    def step(self, place, field):
+        for p in self.chain(place):
+            if p[2] and norm(p[2][0]) == norm(field):
+                return p[2][1], p
+        for p in self.of["places"]:
+            if p[2] and norm(p[2][0]) == norm(field):
+                return p[2][1], p
+        return None, None
+
+
+PATH = re.compile(r"(?<![\w.'-])([a-z]\w*'?)((?:\.before)*)((?:\.[\w'-]+)*)")
+
+
+def respell(expr, fn, place):
+    aliases = {"c"}
+    for m in re.finditer(r"let ([a-z]\w*'?) = (\w+)(?:\.before)+ in", expr):
+        aliases.add(m.group(1))
+    # let m = c.before.before.x: only places are aliases
+    def sub(m):
+        head, befores, rest = m.groups()
+        if head not in aliases:
+            return m.group()
+        if not rest:
+            return head if befores else m.group()
+        parts = rest.split(".")[1:]
+        first = parts[0]
+        if first in ("args", "requires", "ranges", "utf8", "type_inv", "auto", "well_formed"):
+            return head + "." + ".".join(parts)
+        new, p = fn.step(place, first)
+        if new is None:
+            return head + "." + ".".join(parts)
+        tail = parts[1:]
+        if len(tail) > 1 and tail[0] == "new" and tail[1].isdigit() and p[3]:
+            lent = LENT.get(p[3])
+            if lent and int(tail[1]) < len(lent):
+                tail[1] = lent[int(tail[1])]
+        return head + "." + ".".join([new] + tail)
+
+    expr = PATH.sub(sub, expr)
+    return expr
+
+
+def invariant(body, kind, fnspec, params):
+    return body
+
+
+def turn(crate, folder, fname, of, cyc):
+    path = folder + "/Proof.antt"
+    text = open(path).read()
+    fn = Fn(of)
+    bl = blocks(text)
+    uses, invs, answers, helpers, header = [], [], [], [], []
+    used = [False] * len(fn.needs)
+    position = 0
+    for b in bl:
+        com, lines, name = b[0], b[1], b[2]
+        if name == "use":
+            u = lines[0]
+            if not header and com:
+                header = com
+            if re.search(r"\.(Statement|Tie|Lts\S*|Reads|Kinds|Code|Met)\b|borrow\.Fn\.|proofs\.\+\w+\.\{statement\}", u):
+                continue
+            if "borrow.Author.Rules.{rules}" in u or "borrow.Author.Needs" in u:
+                u = "use Rattle.std.proofs.Common.{rules}"
+            uses.append(u)
+            continue
+        sig = lines[0]
+        m = re.search(r": (?:\(t : ℕ\) → )?(?:tie|[\w-]*lts|\S+)\.Need-(\S+)", sig)
+        mi = re.match(r"abbrev (?:pub )?(invariant|decreases)-(\S+) : ", sig)
+        if mi:
+            loop = fn.loops.get(norm(mi.group(2)))
+            ln = loop[0] if loop else mi.group(2)
+            kind = mi.group(1)
+            clause = "\n".join(lines[1:])
+            mm = re.match(r"(\S+)((?: \S+)*?) =\s?(.*)", clause, re.S)
+            args = mm.group(2).split()
+            body = mm.group(3)
+            invs.append((com, kind, ln, args, body, loop[1] if loop else []))
+        elif m:
+            old = m.group(1)
+            idx = next((i for i, n in enumerate(fn.needs) if not used[i] and norm(n[0]) == norm(old)), None)
+            if idx is None:
+                idx = next((i for i, n in enumerate(fn.needs) if not used[i] and norm(n[1]) == norm(old)), None)
+            clause = [l for l in lines[1:]]
+            unf = [l for l in clause if l.startswith("unfolding ")]
+            body = "\n".join(l for l in clause if not l.startswith("unfolding "))
+            mm = re.match(r"(\S+)((?: \S+)*?) =\s?(.*)", body, re.S)
+            if not mm:
+                answers.append((com, "UNKNOWN-" + old, unf, body))
+                continue
+            args = mm.group(2).split()
+            expr = mm.group(3).lstrip()
+            if '\n' in expr:
+                expr = "\n    " + expr
+            if idx is None:
+                new, place = None, None
+            else:
+                used[idx] = True
+                new, place = fn.needs[idx][1], fn.at[idx] if idx < len(fn.at) else None
+            if re.sub(r"\s", "", expr) in ("searchrules", "tt", "omegaarith", "(omegaarith)"):
+                continue
+            answers.append((com, new, unf, respell(expr, fn, place) if place else expr, old, args))
+        elif re.match(r"(pub )?\S+-?_?spec\b", sig) and ("statement" in sig or "Lts" in sig):
+            continue
+        elif name.endswith("spec") or name in ("μ", "given-at", "asked-below", "calls", "given_at", "asked_below"):
+            continue
+        else:
+            helpers.append(b)
+    proofpath = ".".join(folder.split("/proofs/")[1].split("/"))
+    base = f"Rattle.{crate}.proofs.{proofpath}"
+    if invs:
+        o = header + uses + [f"use {base}.Given as goal", ""]
+        for com, kind, ln, args, body, vs in invs:
+            # arguments: f0 .. (function's), .. at the loop's start with index 0, then the current ones
+            env = {}
+            for a in args:
+                if a.endswith("₀"):
+                    v = a[:-1]
+                    env[a] = f"l.fn.{v}" if a not in env else env[a]
+                else:
+                    env[a] = f"l.{a}"
+            # variables not parameters of the function: their ₀ is the loop's start
+            o += com
+            for a, v in env.items():
+                body = re.sub(r"(?<![\w.'₀])" + re.escape(a) + r"(?![\w'₀])", v, body)
+            o += [f"abbrev pub {kind}-{ln} : goal.{kind}-{ln}", f"{kind}-{ln} l = {body}" if not body.startswith("\n") else f"{kind}-{ln} l ={body}", ""]
+        open(folder + "/Invariants.antt", "w").write("\n".join(o).rstrip() + "\n")
+    if answers or helpers:
+        o = (header if not invs else ["-- What is left to show, goal by goal."]) + uses + [f"use {base}.Goals as goal", ""]
+        for com, lines, *_ in helpers:
+            o += com + lines + [""]
+        for a in answers:
+            com, new, unf, expr = a[:4]
+            old = a[4] if len(a) > 4 else "?"
+            if new is None or new.startswith("UNKNOWN"):
+                o += com + [f"-- LEFT {old}: " + expr.replace("\n", "\n-- "), ""]
+                continue
+            t = "t " if cyc else ""
+            o += com + [f"pub {new} : goal.{new}"] + unf + [f"{new} {t}c =" + ("" if expr.startswith("\n") else " ") + expr, ""]
+        open(folder + "/Answers.antt", "w").write("\n".join(o).rstrip() + "\n")
+    os.makedirs("target/old/" + crate, exist_ok=True)
+    os.rename(path, "target/old/" + crate + "/" + fname.replace("/", ".") + ".antt")
+
+
+def main():
+    crate, names = sys.argv[1:3]
+    of = json.load(open(names))
+    for path in sorted(glob.glob(f"crates/{crate}/proofs/**/Proof.antt", recursive=True)):
+        folder = os.path.dirname(path)
+        f = folder.split("/proofs/")[1]
+        dotted = f.replace("/", ".")
+        if len(sys.argv) > 3 and f not in sys.argv[3:]:
+            continue
+        cyc = f.split("/")[-1].startswith("+")
+        key = f"Rattle-{crate}-proofs.{dotted}.Lts"
+        if cyc:
+            keys = [k for k in of if k.startswith(f"Rattle-{crate}-proofs.{dotted}.Lts")]
+            key = keys[0] if len(keys) == 1 else None
+        if key not in of:
+            print(f"{path}: no names ({key})")
+            continue
+        turn(crate, folder, f, of[key], cyc)
+
+
+main()
