@@ -79,7 +79,23 @@ def lent_parameters():
     return out
 
 
+def clauses():
+    """The names of the clauses of each function that has two of a kind, by its path: {path: {"requires": [..], "ensures": [..]}}; and its parameters."""
+    out, params = {}, {}
+    for p in glob.glob("crates/*/src/**/*.rt", recursive=True):
+        crate = p.split("/")[1]
+        rest = p.split("/src/")[1][:-3].replace("/", "::")
+        src = re.sub(r"//.*", "", open(p).read())
+        for m in re.finditer(r"\bfn (\w+)(?:<[^>]*>)?\(([^)]*)\)(.*?)\n\s*\{\n", src, re.S):
+            kinds = {k: re.findall(r"\b" + k + r" (\w+) \{", m.group(3)) for k in ("requires", "ensures")}
+            for path in (f"{crate}::{m.group(1)}", f"{crate}::{rest}::{m.group(1)}"):
+                out[path] = kinds
+                params[path] = [a.split(":")[0].replace("mut ", "").strip() for a in m.group(2).split(",") if a.strip()]
+    return out, params
+
+
 LENT = lent_parameters()
+CLAUSES, PARAMS = clauses()
 
 
 class Fn:
@@ -110,8 +126,46 @@ class Fn:
 PATH = re.compile(r"(?<![\w.'-])([a-z]\w*'?)((?:\.before)*)((?:\.[\w'-]+)*)")
 
 
+def tops(text):
+    """The parts of a text at its commas outside brackets."""
+    out, depth, at = [], 0, 0
+    for i, ch in enumerate(text):
+        depth += ch in "([{"
+        depth -= ch in ")]}"
+        if ch == "," and depth == 0:
+            out.append(text[at:i])
+            at = i + 1
+    return [x.strip() for x in out + [text[at:]] if x.strip()]
+
+
+def named(kind, path, tail):
+    """A clause by its name where it went by its place."""
+    names = CLAUSES.get(path, {}).get(kind, [])
+    if len(names) > 1 and tail and tail[0].isdigit() and int(tail[0]) < len(names):
+        return [names[int(tail[0])]] + tail[1:]
+    return tail
+
+
+def arm_of(fn, place, step, tail):
+    """What an arm binds or says, by today's names: the old step and path below it."""
+    index = {p[0]: i for i, p in enumerate(fn.of["places"])}
+    for p in fn.chain(place):
+        arm = fn.of["arms"][index[p[0]]]
+        if not arm:
+            continue
+        for new, old, path in arm[2]:
+            if norm(old) == norm(step) and path and tail[: len(path)] == path:
+                return [arm[0], new] + tail[len(path) :]
+    return None
+
+
 def respell(expr, fn, place):
     aliases = {"c"}
+    # a name for an arm: what it binds is named at once
+    for m in list(re.finditer(r"let ([a-z]\w*'?) = (c(?:\.before)*\.([\w'-]+)) in\s*", expr)):
+        if arm_of(fn, place, m.group(3), ["given", "1"]) and re.search(r"(?<![\w.'-])" + m.group(1) + r"\.given", expr):
+            expr = expr.replace(m.group(), "")
+            expr = re.sub(r"(?<![\w.'-])" + re.escape(m.group(1)) + r"(?=\.)", m.group(2), expr)
     for m in re.finditer(r"let ([a-z]\w*'?) = (\w+)(?:\.before)+ in", expr):
         aliases.add(m.group(1))
     # let m = c.before.before.x: only places are aliases
@@ -123,6 +177,13 @@ def respell(expr, fn, place):
             return head if befores else m.group()
         parts = rest.split(".")[1:]
         first = parts[0]
+        arm = arm_of(fn, place, first, parts[1:])
+        if arm:
+            return head + "." + ".".join(arm)
+        if first == "requires":
+            return head + "." + ".".join([first] + named("requires", fn.path, parts[1:]))
+        if first.replace("-", "_") in ("well_formed", "type_inv"):
+            return head + "." + ".".join([first.replace("-", "_")] + parts[1:])
         if first in ("args", "requires", "ranges", "utf8", "type_inv", "auto", "well_formed"):
             return head + "." + ".".join(parts)
         new, p = fn.step(place, first)
@@ -133,6 +194,8 @@ def respell(expr, fn, place):
             lent = LENT.get(p[3])
             if lent and int(tail[1]) < len(lent):
                 tail[1] = lent[int(tail[1])]
+        if tail and tail[0] == "ensures" and p[3]:
+            tail = ["ensures"] + named("ensures", p[3], tail[1:])
         return head + "." + ".".join([new] + tail)
 
     expr = PATH.sub(sub, expr)
@@ -143,10 +206,21 @@ def invariant(body, kind, fnspec, params):
     return body
 
 
+def built(expr, names):
+    """A tuple of as many parts as there are clauses, as the record that today's goal is."""
+    m = re.match(r"\s*((?:let .*? in\s+)*)\((.*)\)\s*$", expr, re.S)
+    if len(names) > 1 and m:
+        parts = tops(m.group(2))
+        if len(parts) == len(names):
+            return m.group(1) + "record { " + "; ".join(f"{n} = {x}" for n, x in zip(names, parts)) + " }"
+    return expr
+
+
 def turn(crate, folder, fname, of, cyc):
     path = folder + "/Proof.antt"
     text = open(path).read()
     fn = Fn(of)
+    fn.path = crate + "::" + fname.replace("/", "::").replace("+", "")
     bl = blocks(text)
     uses, invs, answers, helpers, header = [], [], [], [], []
     used = [False] * len(fn.needs)
@@ -196,11 +270,26 @@ def turn(crate, folder, fname, of, cyc):
             else:
                 used[idx] = True
                 new, place = fn.needs[idx][1], fn.at[idx] if idx < len(fn.at) else None
+            if new and re.match(r"returns", new):
+                expr = built(expr, CLAUSES.get(fn.path, {}).get("ensures", []))
+            elif new and "-requires" in new:
+                callee = next((p[3] for p in fn.of["places"] if p[3] and p[2][0] and norm(p[2][0]) == norm(old.rsplit("-requires", 1)[0] + old.rsplit("-requires", 1)[1].replace("-", ""))), None)
+                callee = callee or next((p[3] for p in fn.of["places"] if p[3] and norm(p[3].split("::")[-1]) == norm(old.rsplit("-requires", 1)[0])), None)
+                expr = built(expr, CLAUSES.get(callee, {}).get("requires", []))
             if re.sub(r"\s", "", expr) in ("searchrules", "tt", "omegaarith", "(omegaarith)"):
                 continue
             answers.append((com, new, unf, respell(expr, fn, place) if place else expr, old, args))
         elif re.match(r"(pub )?\S+-?_?spec\b", sig) and ("statement" in sig or "Lts" in sig):
             continue
+        elif name == "μ" and cyc:
+            mm = re.search(r"μ κs a = (.*)", "\n".join(lines), re.S)
+            ps = PARAMS.get(fn.path, [])
+            def arg(x):
+                k = x.group().count(".1") if x.group().endswith(".0") else x.group().count(".1")
+                return "l." + ps[k] if k < len(ps) else x.group()
+            if mm:
+                body = re.sub(r"(?<![\w.])a((?:\.1)*)(\.0)?(?![\w])", lambda x: "l." + ps[x.group(1).count(".1")], mm.group(1))
+                invs.append((com, "decreases", fname.split("+")[-1], [], body, []))
         elif name.endswith("spec") or name in ("μ", "given-at", "asked-below", "calls", "given_at", "asked_below"):
             continue
         else:
