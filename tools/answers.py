@@ -199,6 +199,7 @@ def respell(expr, fn, place):
         return head + "." + ".".join([new] + tail)
 
     expr = PATH.sub(sub, expr)
+    expr = re.sub(r"\.(type-inv|well-formed)(?![\w-])", lambda m: "." + m.group(1).replace("-", "_"), expr)
     return expr
 
 

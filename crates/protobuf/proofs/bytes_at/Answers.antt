@@ -1,0 +1,13 @@
+-- `protobuf::bytes_at` meets its contract: the definition at what the call answers.
+use mathlib.Core.Path.{sym, ap, ◌∙◌}
+use Rattle.protobuf.specs.Field.{held}
+use Rattle.std.proofs.Common.{rules}
+use Rattle.protobuf.proofs.bytes_at.Goals as goal
+
+pub returns-in_default : goal.returns-in_default
+unfolding held
+returns-in_default c = sym (ap (held _ _) (sym c.read_delimited.ensures ∙ c.in_default.is))
+
+pub returns : goal.returns
+unfolding held
+returns c = rw c.either.ensures (sym (ap (held _ _) (sym c.read_delimited.ensures ∙ c.in-At.is)))

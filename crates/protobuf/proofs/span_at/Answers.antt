@@ -1,0 +1,13 @@
+-- `protobuf::span_at` meets its contract: the definition at what the call answers.
+use mathlib.Core.Path.{sym, ap, ◌∙◌}
+use Rattle.protobuf.specs.Field.{spanned}
+use Rattle.std.proofs.Common.{rules}
+use Rattle.protobuf.proofs.span_at.Goals as goal
+
+pub returns-in_default : goal.returns-in_default
+unfolding spanned
+returns-in_default c = sym (ap (spanned _ _ _ _) (sym c.end_of.ensures ∙ c.in_default.is))
+
+pub returns : goal.returns
+unfolding spanned
+returns c = sym (ap (spanned _ _ _ _) (sym c.end_of.ensures ∙ c.in-To.is))
