@@ -1,0 +1,6 @@
+-- `message::limit` meets its contract.
+use Rattle.std.proofs.Common.{rules}
+use Rattle.message.proofs.limit.Goals as goal
+
+pub returns : goal.returns
+returns c = rw c.both.ensures
