@@ -1,5 +1,4 @@
 -- `message::first_of` meets its contract: a varint's number, or where bytes start.
-use Rattle.std.proofs.Common.{rules}
 use borrow.Author.Tests.{eq-eqb, ne_eqb}
 use Rattle.message.specs.Read.{first_of}
 use Rattle.message.proofs.first_of.Goals as goal

@@ -1,5 +1,4 @@
 -- `message::join` meets its contract.
-use Rattle.std.proofs.Common.{rules}
 use Rattle.message.proofs.join.Goals as goal
 
 pub returns : goal.returns

@@ -1,5 +1,4 @@
 -- `message::limit` meets its contract.
-use Rattle.std.proofs.Common.{rules}
 use Rattle.message.proofs.limit.Goals as goal
 
 pub returns : goal.returns

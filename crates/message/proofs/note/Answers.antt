@@ -2,7 +2,6 @@
 use native.Mathlib.Omega.{arith}
 use lib.ListN.{length-set}
 use Rattle.message.specs.Read.{noted}
-use Rattle.std.proofs.Common.{rules}
 use Rattle.message.proofs.note.Goals as goal
 
 pub bounds-cells-i-3 : goal.bounds-cells-i-3

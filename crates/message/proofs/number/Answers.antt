@@ -1,5 +1,4 @@
 -- `message::number` meets its contract: a number is there where a field came.
-use Rattle.std.proofs.Common.{rules}
 use borrow.Author.Tests.{eq-eqb, ne_eqb}
 use Rattle.message.specs.Read.{number_of}
 use Rattle.message.proofs.number.Goals as goal

@@ -1,5 +1,4 @@
 -- `message::one_more` meets its contract.
-use Rattle.std.proofs.Common.{rules}
 use borrow.Author.Tests.{lt-ltb, le-ltb}
 use Rattle.message.specs.Read.{count_more}
 use Rattle.message.proofs.one_more.Goals as goal

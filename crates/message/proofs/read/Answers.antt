@@ -1,6 +1,5 @@
 -- `message::read` meets its contract: four levels, where there is a place for each row.
 use mathlib.Core.Path.{refl}
-use Rattle.std.proofs.Common.{rules}
 use Rattle.message.proofs.ReadLaws.{leaves, into-other, into-same}
 use Rattle.message.proofs.read.Goals as goal
 

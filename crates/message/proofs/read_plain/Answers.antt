@@ -3,7 +3,6 @@ use mathlib.Core.Path.{sym, ap, ◌∙◌}
 use native.Mathlib.Omega.{arith}
 use Rattle.message.specs.Read.{unpadded}
 use Rattle.message.proofs.ReadLaws.{plain_other, plain-text}
-use Rattle.std.proofs.Common.{rules}
 use Rattle.message.proofs.read_plain.Goals as goal
 
 pub returns-then-kind-lt-STRING : goal.returns-then-kind-lt-STRING

@@ -1,10 +1,8 @@
 -- What is left to show, goal by goal.
-use Prim.Native.Nat.{◌+◌, ◌-◌}
-use mathlib.Core.Path.{◌≡◌, refl, sym, ◌∙◌}
+use Prim.Native.Nat.{◌+◌}
+use mathlib.Core.Path.{refl, sym, ◌∙◌}
 use native.Mathlib.Omega.{arith}
-use lib.ListN.{length}
-use Rattle.buffer.specs.Walk.{walk}
-use Rattle.message.specs.Read.{row_step, first_row, row_in}
+use Rattle.message.specs.Read.{row_in}
 use Rattle.message.proofs.RowLaws.{rows_end, rows-outside, rows-this, rows_other}
 use Rattle.message.proofs.row_of.Goals as goal
 

@@ -1,11 +1,9 @@
 -- `message::row_of` meets its contract: what the table says is what its rows from `i` on say.
-use Prim.Native.Nat.{◌+◌, ◌-◌}
-use mathlib.Core.Path.{◌≡◌, refl, sym, ◌∙◌}
-use native.Mathlib.Omega.{arith}
+use Prim.Native.Nat.{◌-◌}
+use mathlib.Core.Path.{◌≡◌}
 use lib.ListN.{length}
 use Rattle.buffer.specs.Walk.{walk}
 use Rattle.message.specs.Read.{row_step, first_row, row_in}
-use Rattle.message.proofs.RowLaws.{rows_end, rows-outside, rows-this, rows_other}
 use Rattle.message.proofs.row_of.Given as goal
 
 abbrev pub invariant-loop-i : goal.invariant-loop-i
