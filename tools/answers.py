@@ -159,22 +159,25 @@ def arm_of(fn, place, step, tail):
     return None
 
 
-def respell(expr, fn, place):
-    aliases = {"c"}
+def respell(expr, fn, place, more=None):
+    """The paths in a term respelled; `more` has the names that stand for other records, with their places."""
+    aliases = dict(more or {}, c=place)
     # a name for an arm: what it binds is named at once
     for m in list(re.finditer(r"let ([a-z]\w*'?) = (c(?:\.before)*\.([\w'-]+)) in\s*", expr)):
         if arm_of(fn, place, m.group(3), ["given", "1"]) and re.search(r"(?<![\w.'-])" + m.group(1) + r"\.given", expr):
             expr = expr.replace(m.group(), "")
             expr = re.sub(r"(?<![\w.'-])" + re.escape(m.group(1)) + r"(?=\.)", m.group(2), expr)
     for m in re.finditer(r"let ([a-z]\w*'?) = (\w+)(?:\.before)+ in", expr):
-        aliases.add(m.group(1))
+        aliases[m.group(1)] = place
+        expr = expr.replace(m.group(), f"let {m.group(1)} = {m.group(2)} in")
     # let m = c.before.before.x: only places are aliases
     def sub(m):
         head, befores, rest = m.groups()
         if head not in aliases:
             return m.group()
+        place = aliases[head]
         if not rest:
-            return head if befores else m.group()
+            return m.group()
         parts = rest.split(".")[1:]
         first = parts[0]
         arm = arm_of(fn, place, first, parts[1:])
@@ -294,11 +297,46 @@ def turn(crate, folder, fname, of, cyc):
         elif name.endswith("spec") or name in ("μ", "given-at", "asked-below", "calls", "given_at", "asked_below"):
             continue
         else:
+            whole = "\n".join(lines)
+            if "tie." in whole:
+                by = {norm(p[0]): (p[0], n) for p, n in zip(fn.of["places"], fn.of["places_by_name"])}
+                at = lambda s: by.get(norm(s), (None, None))
+                more = {}
+                for m in re.finditer(r"\((\w+) : tie\.([\w-]+)", whole):
+                    more[m.group(1)] = at(m.group(2))[0]
+                sig_, _, rest_ = whole.partition("\n")
+                types = re.findall(r"(?:^|→|:) tie\.([\w-]+)", sig_)
+                for l in rest_.split("\n"):
+                    mm = re.match(re.escape(name) + r"((?: [a-z]\w*)+) =", l)
+                    if mm:
+                        for v, ty in zip(mm.group(1).split(), types):
+                            more.setdefault(v, at(ty)[0])
+                whole = re.sub(r"tie\.([\w-]+)", lambda m: "goal." + (at(m.group(1))[1] or m.group(1)), whole)
+                whole = respell(whole, fn, None, more)
+                b = [com, whole.split("\n"), name, b[3]]
             helpers.append(b)
     proofpath = ".".join(folder.split("/proofs/")[1].split("/"))
     base = f"Rattle.{crate}.proofs.{proofpath}"
+    cited = set()
+    again = True
+    texts = "\n".join(b for *_, b, vs in [(i[4], i[5]) for i in invs]) if False else "\n".join(i[4] for i in invs)
+    while again:
+        again = False
+        for h in helpers:
+            if h[2] not in cited and re.search(r"(?<![\w.'-])" + re.escape(h[2]) + r"(?![\w'-])", texts):
+                cited.add(h[2])
+                texts += "\n" + "\n".join(h[1])
+                again = True
     if invs:
         o = header + uses + [f"use {base}.Given as goal", ""]
+        for com, lines, name, *_ in helpers:
+            if name in cited:
+                first = lines[0] if re.match(r"(abbrev |unfoldable )?pub |record", lines[0]) else re.sub(r"^(abbrev |unfoldable )?", r"\1pub ", lines[0])
+                first = re.sub(r"^record ", "pub record ", first)
+                o += com + [first] + lines[1:] + [""]
+        helpers = [h for h in helpers if h[2] not in cited]
+        if cited:
+            uses.append(f"use {base}.Invariants.{{{', '.join(sorted(cited))}}}")
         for com, kind, ln, args, body, vs in invs:
             # arguments: f0 .. (function's), .. at the loop's start with index 0, then the current ones
             env = {}
