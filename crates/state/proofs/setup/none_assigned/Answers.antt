@@ -1,0 +1,6 @@
+-- `state::setup::none_assigned` meets its contract.
+use Rattle.std.proofs.Common.{rules}
+use Rattle.state.proofs.setup.none_assigned.Goals as goal
+
+pub returns : goal.returns
+returns c = rw (c.no_ids.ensures, c.no_groups.ensures)
