@@ -78,7 +78,8 @@ pub items_back : (front : List ℕ) (is : List Item) (rest r : List ℕ)
 unfolding rows datagrams entries_from items_from
 items_back front [] rest r = refl
 items_back front (i ∷ is) rest r =
-    rw (append_assoc (row_of i) (rows is) r, entry-back i (rows is ++ r), row-behind i (rows is ++ r), append_assoc i.bytes (datagrams is) rest, bytes_back front i.bytes (datagrams is ++ rest))
+    ap (λ (d : List ℕ). items_from (front ++ d) (length front) (entries_from (length (i ∷ is)) (rows (i ∷ is) ++ r))) (append_assoc i.bytes (datagrams is) rest)
+    ∙ rw (append_assoc (row_of i) (rows is) r, entry-back i (rows is ++ r), row-behind i (rows is ++ r), bytes_back front i.bytes (datagrams is ++ rest))
     (ap (λ (l : List Item). i ∷ l) (step front i.bytes (datagrams is ++ rest) (items_back (front ++ i.bytes) is rest r)))
   where
     step : (front b t : List ℕ) → items_from ((front ++ b) ++ t) (length (front ++ b)) (entries_from (length is) (rows is ++ r)) ≡ is

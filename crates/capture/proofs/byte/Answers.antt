@@ -2,7 +2,6 @@
 use mathlib.Core.Path.{refl}
 use Rattle.capture.specs.Read.{byte_at}
 use Rattle.capture.proofs.Laws.{byte_past}
-use Rattle.std.proofs.Common.{rules}
 use Rattle.capture.proofs.byte.Goals as goal
 
 pub returns-then-i-s : goal.returns-then-i-s

@@ -1,6 +1,5 @@
 -- `bytes_at` meets its contract: the front of what stands behind.
 use Rattle.capture.proofs.Laws.{bytes-are}
-use Rattle.std.proofs.Common.{rules}
 use Rattle.capture.proofs.bytes_at.Goals as goal
 
 pub returns : goal.returns

@@ -1,8 +1,6 @@
 -- `end_of` meets its contract: what is left of the rows makes all.
 use Prim.Native.Nat.{◌-◌}
-use native.Mathlib.Omega.{arith}
-use Rattle.std.proofs.Common.{rules}
-use Rattle.capture.proofs.Laws.{Counting, counting-start, counting-bad, counting_more, counting-end}
+use Rattle.capture.proofs.Laws.{Counting}
 use Rattle.capture.proofs.end_of.Given as goal
 
 abbrev pub invariant-loop-i : goal.invariant-loop-i

@@ -1,6 +1,5 @@
 -- `entry_at` meets its contract: field by field.
 use Rattle.capture.proofs.Laws.{entry-is}
-use Rattle.std.proofs.Common.{rules}
 use Rattle.capture.proofs.entry_at.Goals as goal
 
 pub returns : goal.returns

@@ -1,6 +1,5 @@
 -- `index_of` meets its contract: by where the datagrams end.
 use Rattle.capture.proofs.Laws.{index-outside, index-apart, index-there}
-use Rattle.std.proofs.Common.{rules}
 use Rattle.capture.proofs.index_of.Goals as goal
 
 pub returns-in_default : goal.returns-in_default

@@ -1,6 +1,5 @@
 -- `outcome_of` meets its contract: by the case.
 use Rattle.capture.proofs.Laws.{outcome-index, outcome-malformed}
-use Rattle.std.proofs.Common.{rules}
 use Rattle.capture.proofs.outcome_of.Goals as goal
 
 pub returns-in-Index : goal.returns-in-Index

@@ -1,6 +1,5 @@
 -- `pair` meets its contract: the high byte first.
 use Rattle.capture.proofs.Laws.{pair_is}
-use Rattle.std.proofs.Common.{rules}
 use Rattle.capture.proofs.pair.Goals as goal
 
 pub returns : goal.returns

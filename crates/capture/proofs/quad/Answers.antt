@@ -1,6 +1,5 @@
 -- `quad` meets its contract: the high pair first.
 use Rattle.capture.proofs.Laws.{quad_is}
-use Rattle.std.proofs.Common.{rules}
 use Rattle.capture.proofs.quad.Goals as goal
 
 pub returns : goal.returns

@@ -1,7 +1,6 @@
 -- `read` meets its contract: the tests in order.
 use mathlib.Core.Path.{sym, ◌∙◌}
 use Rattle.capture.proofs.Laws.{capture-short, capture-long, capture-off, capture-over, capture-is}
-use Rattle.std.proofs.Common.{rules}
 use Rattle.capture.proofs.read.Goals as goal
 
 pub returns-then-n-lt6 : goal.returns-then-n-lt6

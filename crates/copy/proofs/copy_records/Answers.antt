@@ -1,14 +1,10 @@
 -- What is left to show, goal by goal.
-use Prim.Native.Nat.{◌-◌}
-use mathlib.Core.Path.{◌≡◌, refl, sym, ◌∙◌}
+use mathlib.Core.Path.{refl, sym, ◌∙◌}
 use mathlib.Core.List.{[]}
 use native.Mathlib.Omega.{arith}
-use Rattle.std.proofs.Common.{rules}
-use lib.ListN.{length}
 use Rattle.buffer.proofs.Puts.{appended-put, appended-most, appended-join}
 use Rattle.tlv.proofs.Laws.{record-inside}
-use Rattle.copy.specs.Shown.{copies}
-use Rattle.copy.proofs.Laws.{Going, going_start, going_end, going-most, copies_at, copies-start, copies-end, copies-unreadable, going-record}
+use Rattle.copy.proofs.Laws.{going_start, going_end, going-most, copies-start, copies-end, copies-unreadable, going-record}
 use Rattle.copy.proofs.copy_records.Goals as goal
 
 pub loop-start-init : goal.loop-start-init

@@ -1,6 +1,5 @@
 -- `copy::copy_shown` meets its contract: the records of the id from where they are.
 use Rattle.copy.proofs.Laws.{shown}
-use Rattle.std.proofs.Common.{rules}
 use Rattle.copy.proofs.copy_shown.Goals as goal
 
 pub returns : goal.returns

@@ -1,6 +1,5 @@
 -- `copy::is_chosen` meets its contract: by the choice.
 use Rattle.copy.proofs.Laws.{chosen-only, chosen-except}
-use Rattle.std.proofs.Common.{rules}
 use Rattle.copy.proofs.is_chosen.Goals as goal
 
 pub returns-in-Only : goal.returns-in-Only

@@ -1,7 +1,6 @@
 -- `copy::source` meets its contract: nothing, the agent's own, or the store.
 use mathlib.Core.Path.{sym, ◌∙◌}
 use Rattle.copy.proofs.Laws.{source-hidden, source-own, source-store}
-use Rattle.std.proofs.Common.{rules}
 use Rattle.copy.proofs.source.Goals as goal
 
 pub returns-then-is_hidden : goal.returns-then-is_hidden

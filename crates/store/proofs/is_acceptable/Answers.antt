@@ -1,11 +1,7 @@
 -- What is left to show, goal by goal.
-use Prim.Native.Nat.{◌-◌, ◌≤◌}
-use mathlib.Core.Path.{◌≡◌, sym, ap, ◌∙◌}
+use mathlib.Core.Path.{sym, ap, ◌∙◌}
 use native.Mathlib.Omega.{arith}
-use Rattle.std.proofs.Common.{rules}
-use lib.ListN.{length}
 use Rattle.tlv.proofs.Laws.{record-inside}
-use Rattle.store.specs.Store.{acceptable}
 use Rattle.store.specs.declared.Seen.{Seen}
 use Rattle.store.proofs.Laws.{noted-counts, accepted_from, accepted-large, accepted-start, accepted-end, accepted-unreadable, accepted-next}
 use Rattle.store.proofs.is_acceptable.Goals as goal

@@ -1,7 +1,6 @@
 -- `note` meets its contract: the tests tell which of the counts grow.
 use mathlib.Core.Path.{sym, ◌∙◌}
 use Rattle.store.proofs.Laws.{noted-reserved, noted-id, noted_other}
-use Rattle.std.proofs.Common.{rules}
 use Rattle.store.proofs.note.Goals as goal
 
 pub returns-then-is_reserved : goal.returns-then-is_reserved
