@@ -94,6 +94,7 @@ def clauses():
     return out, params
 
 
+IDENTIFIERS = {w for p in glob.glob("crates/*/src/**/*.rt", recursive=True) for w in re.findall(r"\b[a-z]\w*_\w+", open(p).read())}
 LENT = lent_parameters()
 CLAUSES, PARAMS = clauses()
 
@@ -162,6 +163,7 @@ def arm_of(fn, place, step, tail):
 def respell(expr, fn, place, more=None):
     """The paths in a term respelled; `more` has the names that stand for other records, with their places."""
     aliases = dict(more or {}, c=place)
+    expr = re.sub(r"(?<=\.)[a-z]\w*(?:-\w+)+(?![\w'-])", lambda m: m.group().replace("-", "_") if m.group().replace("-", "_") in IDENTIFIERS else m.group(), expr)
     # a name for an arm: what it binds is named at once
     for m in list(re.finditer(r"let ([a-z]\w*'?) = (c(?:\.before)*\.([\w'-]+)) in\s*", expr)):
         if arm_of(fn, place, m.group(3), ["given", "1"]) and re.search(r"(?<![\w.'-])" + m.group(1) + r"\.given", expr):
@@ -202,6 +204,8 @@ def respell(expr, fn, place, more=None):
         return head + "." + ".".join([new] + tail)
 
     expr = PATH.sub(sub, expr)
+    # what a test by `!` says is said of the value itself
+    expr = re.sub(r"\b(?:not-true|not-false) _ (c\.[\w'.-]+)", r"\1", expr)
     expr = re.sub(r"\.(type-inv|well-formed)(?![\w-])", lambda m: "." + m.group(1).replace("-", "_"), expr)
     return expr
 
