@@ -1,0 +1,13 @@
+-- `firmware::place::name_at` meets its contract: the bytes are copied to the front of zeros.
+use mathlib.Core.Path.{sym, ap}
+use Rattle.firmware.specs.Place.{name_at}
+use Rattle.std.proofs.Common.{rules}
+use Rattle.firmware.proofs.place.name_at.Goals as goal
+
+pub returns-in_default : goal.returns-in_default
+unfolding name_at
+returns-in_default c = sym (ap (name_at _) c.in_default.is)
+
+pub returns : goal.returns
+unfolding name_at
+returns c = rw (c.copy.ensures, c.part-text.ensures) (sym (ap (name_at _) c.in-At.is))
