@@ -1,0 +1,14 @@
+-- `assign::place_of` meets its contract: the type was not found yet, so its place is among those left.
+use Prim.Native.Nat.{ℕ, ◌-◌, ◌≤◌, ◌<◌}
+use mathlib.Core.Path.{◌≡◌, sym, ◌∙◌}
+use native.Mathlib.Omega.{arith}
+use lib.ListN.{length, length-map, length-take}
+use Rattle.assign.specs.Assign.{place_of}
+use Rattle.assign.proofs.Laws.{place_from, place-start, place_end, place_here, place-next}
+use Rattle.assign.proofs.place_of.Given as goal
+
+abbrev pub invariant-loop-i : goal.invariant-loop-i
+invariant-loop-i l = (place_of l.groups l.kind ≡ place_from l.groups l.i l.kind) × (l.i ≤ 8)
+
+abbrev pub decreases-loop-i : goal.decreases-loop-i
+decreases-loop-i l = 8 - l.i

@@ -1,0 +1,56 @@
+-- What is left to show, goal by goal.
+use Prim.Native.Nat.{ℕ, ◌-◌, ◌<◌}
+use mathlib.Core.Path.{◌≡◌, sym, ◌∙◌}
+use mathlib.Core.Logic.{◌⊎◌, inl, inr}
+use native.Mathlib.Omega.{arith}
+use lib.ListN.{length, length-map, length-take}
+use Rattle.post.specs.Value.{has_pair}
+use Rattle.post.proofs.Laws.{pair_from, pair-start, pair_end, pair-here, pair-kind, pair-id}
+use Rattle.post.proofs.value.has_pair.Goals as goal
+use Rattle.post.proofs.value.has_pair.Goals.{then-pair-kind, else-pair-kind}
+use Rattle.std.proofs.Common.{rules}
+
+pub loop-i-init : goal.loop-i-init
+loop-i-init c = pair-start _ _ _
+
+pub returns-then-groups-i : goal.returns-then-groups-i
+returns-then-groups-i c =
+    let a = c.args in
+    let h = c.if-groups-i.true in
+    sym (c.loop-i.invariant ∙ pair_end a.groups c.loop-i.i a.kind a.id (omega (arith, length-take a.groups.count a.groups.list)))
+
+pub offset_bounds-list-i : goal.offset_bounds-list-i
+offset_bounds-list-i c = let h = c.loop-i-test.true in omega arith
+
+pub bounds-list-i : goal.bounds-list-i
+bounds-list-i c = c.loop-i-test.true
+
+pub returns-then-pair-id : goal.returns-then-pair-id
+returns-then-pair-id c =
+    let a = c.args in
+    let l = c.loop-i in
+    sym (l.invariant ∙ pair-here a.groups l.i a.kind a.id c.if-groups-i.false (let e : length a.groups.list ≡ 8 = search rules in omega arith) c.if-pair-kind.true c.if-pair-id.true)
+
+pub overflow_add-i : goal.overflow_add-i
+overflow_add-i c = let h = c.loop-i-test.true in omega arith
+
+pub loop-i-smaller : goal.loop-i-smaller
+loop-i-smaller c = let h = c.loop-i-test.true in omega arith
+
+pub loop-i-preserved : goal.loop-i-preserved
+loop-i-preserved c =
+    let a = c.args in
+    let l = c.loop-i in
+    let n : l.i < length a.groups.list = (let e : length a.groups.list ≡ 8 = search rules in omega arith) in
+    l.invariant
+    ∙ elim c.if-pair-kind.branch [
+        then-pair-kind w ↦ pair-id a.groups l.i a.kind a.id c.if-groups-i.false n w.if-pair-kind.true w.if-pair-id.false
+      | else-pair-kind w ↦ pair-kind a.groups l.i a.kind a.id c.if-groups-i.false n w.if-pair-kind.false
+      ]
+
+pub returns : goal.returns
+returns c =
+    let a = c.args in
+    let e : length a.groups.list ≡ 8 = search rules in
+    let h = c.loop-i-test.false in
+    sym (c.loop-i.invariant ∙ pair_end a.groups c.loop-i.i a.kind a.id (omega (arith, length-take a.groups.count a.groups.list)))
