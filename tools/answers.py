@@ -205,7 +205,12 @@ def respell(expr, fn, place, more=None):
 
     expr = PATH.sub(sub, expr)
     # what a test by `!` says is said of the value itself
-    expr = re.sub(r"\b(?:not-true|not-false) _ (c\.[\w'.-]+)", r"\1", expr)
+    def plain(m):
+        on = re.match(r".*\.if-not-(\w+)", m.group(1))
+        return m.group() if on and re.search(r"!" + on.group(1) + r"\.\w+ *(?:\{|\)|&|\|)", fn.source) else m.group(1)
+
+    expr = re.sub(r"\b(?:not-true|not-false) (?:_|[a-z][\w.]*) ([a-z]\.[\w'.-]+)", plain, expr)
+    expr = re.sub(r"c\.in_default(?:-\w+)?\.rest(?:\.[01])*", "(λ h. omega arith)", expr)
     expr = re.sub(r"\.(type-inv|well-formed)(?![\w-])", lambda m: "." + m.group(1).replace("-", "_"), expr)
     return expr
 
@@ -228,6 +233,7 @@ def turn(crate, folder, fname, of, cyc):
     path = folder + "/Proof.antt"
     text = open(path).read()
     fn = Fn(of)
+    fn.source = "\n".join(open(p).read() for p in glob.glob(f"crates/{crate}/src/**/*.rt", recursive=True))
     fn.path = crate + "::" + fname.replace("/", "::").replace("+", "")
     bl = blocks(text)
     uses, invs, answers, helpers, header = [], [], [], [], []

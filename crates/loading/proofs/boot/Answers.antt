@@ -6,7 +6,7 @@ use Rattle.std.proofs.Common.{rules}
 use Rattle.loading.proofs.boot.Goals as goal
 
 pub returns-then-not-images : goal.returns-then-not-images
-returns-then-not-images c = sym (boot-idle _ (c.if-not-images.true))
+returns-then-not-images c = sym (boot-idle _ (not-true _ c.if-not-images.true))
 
 pub returns : goal.returns
-returns c = sym (boot-pending _ _ c.no_pending-pending.ensures (c.if-not-images.false))
+returns c = sym (boot-pending _ _ c.no_pending-pending.ensures (not-false _ c.if-not-images.false))

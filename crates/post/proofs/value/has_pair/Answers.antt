@@ -7,7 +7,7 @@ use lib.ListN.{length, length-map, length-take}
 use Rattle.post.specs.Value.{has_pair}
 use Rattle.post.proofs.Laws.{pair_from, pair-start, pair_end, pair-here, pair-kind, pair-id}
 use Rattle.post.proofs.value.has_pair.Goals as goal
-use Rattle.post.proofs.value.has_pair.Goals.{then-pair-kind, else-pair-kind}
+use Rattle.post.proofs.value.has_pair.Goals.{then-pair-kind+else-pair-id, else-pair-kind}
 use Rattle.std.proofs.Common.{rules}
 
 pub loop-i-init : goal.loop-i-init
@@ -44,7 +44,7 @@ loop-i-preserved c =
     let n : l.i < length a.groups.list = (let e : length a.groups.list ≡ 8 = search rules in omega arith) in
     l.invariant
     ∙ elim c.if-pair-kind.branch [
-        then-pair-kind w ↦ pair-id a.groups l.i a.kind a.id c.if-groups-i.false n w.if-pair-kind.true w.if-pair-id.false
+        then-pair-kind+else-pair-id w ↦ pair-id a.groups l.i a.kind a.id c.if-groups-i.false n w.if-pair-kind.true w.if-pair-id.false
       | else-pair-kind w ↦ pair-kind a.groups l.i a.kind a.id c.if-groups-i.false n w.if-pair-kind.false
       ]
 
