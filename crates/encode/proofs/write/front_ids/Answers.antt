@@ -2,7 +2,6 @@
 use mathlib.Core.Path.{sym}
 use native.Mathlib.Omega.{arith}
 use lib.Seq.{take_all, length-take-le}
-use Rattle.std.proofs.Common.{rules}
 use Rattle.encode.proofs.write.front_ids.Goals as goal
 
 pub slice_bounds-result-end : goal.slice_bounds-result-end

@@ -1,7 +1,5 @@
 -- `encode::write::put_group` meets its contract: the fields make the value, which fits its buffer, and the record holds it.
-use Prim.Native.Nat.{ℕ}
 use mathlib.Core.Path.{sym}
-use mathlib.Core.List.{List}
 use mathlib.Core.Option.{some}
 use lib.Dec.{lit≤}
 use lib.ListN.{replicate}
@@ -12,34 +10,25 @@ use Rattle.tables.specs.Table.{written, write_by}
 use Rattle.csmp.specs.Tables
 use Rattle.encode.specs.Write.{group_record}
 use Rattle.protobuf.proofs.SizeLaws.{number-most, nil, upto, whole}
-use Rattle.std.proofs.Common.{rules}
 use Rattle.encode.proofs.write.put_group.Goals as goal
+use Rattle.encode.proofs.write.put_group.Goals.{After-put_number-n}
 
--- what the record holds
-abbrev fields : goal.Start → List ℕ
-fields s = write_by Tables.group (some s.args.kind, (some s.args.id, tt))
-
--- the entry, seen from behind the puts
-abbrev start : goal.After-put-arg-1 → goal.Start
-start x = x.before.before.before.before.before.before.before.before
-
--- the puts left it at the front of the buffer
-value : (x : goal.After-put-arg-1) → Whole (replicate 64 0) (fields (start x)) x.put_number-n.new.out x.put_number-n.result
+-- the puts left the value at the front of the buffer
+value : (c : After-put_number-n)
+    → Whole (replicate 64 0) (write_by Tables.group (some c.args.kind, (some c.args.id, tt))) c.put_number-n.new.out c.put_number-n.result
 unfolding if_any written write_by
-value x =
-    let p2 = x in
-    let p1 = p2 in
+value c =
     whole
-    (next p1.put_number-a.ensures (next p2.put_number-n.ensures done))
+    (next c.put_number-a.ensures (next c.put_number-n.ensures done))
     (upto (number-most 1 _) (upto (number-most 2 _) nil))
     (lit≤ tt)
 
 pub slice_bounds-value-end : goal.slice_bounds-value-end
-slice_bounds-value-end c = (value c).room
+slice_bounds-value-end c = (value (goal.at.slice_bounds-value-end c).After-put_number-n).room
 
 pub slice_bounds-put-end : goal.slice_bounds-put-end
-slice_bounds-put-end c = sym (length-take-le _ _ (value c.before).room)
+slice_bounds-put-end c = sym (length-take-le _ _ (value (goal.at.slice_bounds-put-end c).After-put_number-n).room)
 
 pub returns : goal.returns
 unfolding group_record
-returns c = rw (value c.before.before.before.before).bytes at c.put.ensures
+returns c = rw (value (goal.at.returns c).After-put_number-n).bytes at c.put.ensures

@@ -1,11 +1,6 @@
 -- What is left to show, goal by goal.
-use Prim.Native.Nat.{◌-◌}
 use mathlib.Core.Path.{refl}
-use native.Mathlib.Omega.{arith}
-use lib.ListN.{length, drop}
-use Rattle.std.proofs.Common.{rules}
-use Rattle.encode.specs.Write.{texts}
-use Rattle.encode.proofs.WriteLaws.{Left, left-start, left-more, left_end, texts-end, texts-more}
+use Rattle.encode.proofs.WriteLaws.{left-start, left-more, left_end, texts-end, texts-more}
 use Rattle.encode.proofs.write.put_texts.Goals as goal
 
 pub loop-i-init : goal.loop-i-init

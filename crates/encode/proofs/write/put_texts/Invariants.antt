@@ -1,11 +1,8 @@
 -- `encode::write::put_texts` meets its contract: the texts of the ids left are still to be appended, and a step appends the first.
 use Prim.Native.Nat.{◌-◌}
-use mathlib.Core.Path.{refl}
-use native.Mathlib.Omega.{arith}
 use lib.ListN.{length, drop}
-use Rattle.std.proofs.Common.{rules}
 use Rattle.encode.specs.Write.{texts}
-use Rattle.encode.proofs.WriteLaws.{Left, left-start, left-more, left_end, texts-end, texts-more}
+use Rattle.encode.proofs.WriteLaws.{Left}
 use Rattle.encode.proofs.write.put_texts.Given as goal
 
 abbrev pub invariant-loop-i : goal.invariant-loop-i

@@ -1,7 +1,5 @@
 -- `encode::write::put_time` meets its contract: the fields make the value, which fits its buffer, and the record holds it.
-use Prim.Native.Nat.{ℕ}
 use mathlib.Core.Path.{sym}
-use mathlib.Core.List.{List}
 use mathlib.Core.Option.{none, some}
 use lib.Dec.{lit≤}
 use lib.ListN.{replicate}
@@ -12,32 +10,21 @@ use Rattle.tables.specs.Table.{written, write_by}
 use Rattle.csmp.specs.Tables
 use Rattle.encode.specs.Write.{time_record}
 use Rattle.protobuf.proofs.SizeLaws.{number-most, nil, upto, whole}
-use Rattle.std.proofs.Common.{rules}
 use Rattle.encode.proofs.write.put_time.Goals as goal
+use Rattle.encode.proofs.write.put_time.Goals.{After-put_number-n}
 
--- what the record holds
-abbrev fields : goal.Start → List ℕ
-fields s = write_by Tables.current_time (some s.args.time.0, (none, (none, tt)))
-
--- the entry, seen from behind the puts
-abbrev start : goal.After-put-arg-1 → goal.Start
-start x = x.before.before.before.before.before.before
-
--- the puts left it at the front of the buffer
-value : (x : goal.After-put-arg-1) → Whole (replicate 32 0) (fields (start x)) x.put_number-n.new.out x.put_number-n.result
+-- the puts left the value at the front of the buffer
+value : (c : After-put_number-n)
+    → Whole (replicate 32 0) (write_by Tables.current_time (some c.args.time.0, (none, (none, tt)))) c.put_number-n.new.out c.put_number-n.result
 unfolding if_any written write_by
-value x =
-    whole
-    (next x.put_number-n.ensures done)
-    (upto (number-most 1 _) nil)
-    (lit≤ tt)
+value c = whole (next c.put_number-n.ensures done) (upto (number-most 1 _) nil) (lit≤ tt)
 
 pub slice_bounds-value-end : goal.slice_bounds-value-end
-slice_bounds-value-end c = (value c).room
+slice_bounds-value-end c = (value (goal.at.slice_bounds-value-end c).After-put_number-n).room
 
 pub slice_bounds-put-end : goal.slice_bounds-put-end
-slice_bounds-put-end c = sym (length-take-le _ _ (value c.before).room)
+slice_bounds-put-end c = sym (length-take-le _ _ (value (goal.at.slice_bounds-put-end c).After-put_number-n).room)
 
 pub returns : goal.returns
 unfolding time_record
-returns c = rw (value c.before.before.before.before).bytes at c.put.ensures
+returns c = rw (value (goal.at.returns c).After-put_number-n).bytes at c.put.ensures
