@@ -373,8 +373,15 @@ def turn(crate, folder, fname, of, cyc):
                 o += com + [f"-- LEFT {old}: " + expr.replace("\n", "\n-- "), ""]
                 continue
             t = "t " if cyc else ""
+            # what the contract is said for is bound by the answer
+            bound = [x for x in (a[5] if len(a) > 5 else []) if x not in ("c", "κs", "t")]
+            if bound:
+                expr = f"\n    λ {' '.join(bound)}." + (" " + expr.lstrip() if not expr.startswith("\n") else expr)
             o += com + [f"pub {new} : goal.{new}"] + unf + [f"{new} {t}c =" + ("" if expr.startswith("\n") else " ") + expr, ""]
-        open(folder + "/Answers.antt", "w").write("\n".join(o).rstrip() + "\n")
+        text = "\n".join(o)
+        if "arith" in text and not re.search(r"use .*[{ ]arith[,}]", text):
+            text = text.replace(f"use {base}.Goals as goal", f"use native.Mathlib.Omega.{{arith}}\nuse {base}.Goals as goal")
+        open(folder + "/Answers.antt", "w").write(text.rstrip() + "\n")
     os.makedirs("target/old/" + crate, exist_ok=True)
     os.rename(path, "target/old/" + crate + "/" + fname.replace("/", ".") + ".antt")
 

@@ -1,0 +1,11 @@
+-- `note::assign_group` meets its contract: one of eight, or one too many.
+use mathlib.Core.Path.{sym, ◌∙◌}
+use Rattle.note.proofs.Laws.{ninth-unreadable, eight-assigned}
+use Rattle.std.proofs.Common.{rules}
+use Rattle.note.proofs.assign_group.Goals as goal
+
+pub returns-then-n-ge8 : goal.returns-then-n-ge8
+returns-then-n-ge8 c = c.mark.ensures ∙ sym (ninth-unreadable _ _ _ c.if-n-ge8.true)
+
+pub returns : goal.returns
+returns c = rw (c.either.ensures, c.regroup-regrouped.ensures) (eight-assigned _ _ _ c.if-n-ge8.false)
