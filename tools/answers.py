@@ -195,10 +195,12 @@ def respell(expr, fn, place, more=None):
         if new is None:
             return head + "." + ".".join(parts)
         tail = parts[1:]
-        if len(tail) > 1 and tail[0] == "new" and tail[1].isdigit() and p[3]:
-            lent = LENT.get(p[3])
-            if lent and int(tail[1]) < len(lent):
-                tail[1] = lent[int(tail[1])]
+        if len(tail) > 1 and tail[0] == "new" and p[3]:
+            lent, k = LENT.get(p[3]), 1
+            while k < len(tail) and tail[k] == "1":
+                k += 1
+            if lent and k < len(tail) and tail[k] == "0" and k - 1 < len(lent):
+                tail = ["new", lent[k - 1]] + tail[k + 1 :]
         if tail and tail[0] == "ensures" and p[3]:
             tail = ["ensures"] + named("ensures", p[3], tail[1:])
         return head + "." + ".".join([new] + tail)
@@ -353,7 +355,7 @@ def turn(crate, folder, fname, of, cyc):
             for a in args:
                 if a.endswith("₀"):
                     v = a[:-1]
-                    env[a] = f"l.fn.{v}" if a not in env else env[a]
+                    env[a] = f"l.fn.{v}" if v in PARAMS.get(fn.path, []) else f"l.initial.{v}"
                 else:
                     env[a] = f"l.{a}"
             # variables not parameters of the function: their ₀ is the loop's start
