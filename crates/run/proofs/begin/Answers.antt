@@ -6,9 +6,9 @@ use Rattle.run.proofs.begin.Goals as goal
 pub returns-in-Error : goal.returns-in-Error
 returns-in-Error c =
     let a = c.args in
-    begun-error a.images a.groups a.«signed-posts» a.«refuse-padding» a.flash.now a.payload.now a.time a.verdict c.look-looked.ensures c.judge.ensures c.in-Error.is
+    begun-error a.images a.groups a.«signed_posts» a.«refuse_padding» a.flash.now a.payload.now a.time a.verdict c.look-looked.ensures c.judge.ensures c.in-Error.is
 
 pub returns-in-Run : goal.returns-in-Run
 returns-in-Run c =
     let a = c.args in
-    begun-run a.images a.groups a.«signed-posts» a.«refuse-padding» a.flash.now a.payload.now a.time a.verdict c.look-looked.ensures c.judge.ensures c.in-Run.is c.take_front.ensures
+    begun-run a.images a.groups a.«signed_posts» a.«refuse_padding» a.flash.now a.payload.now a.time a.verdict c.look-looked.ensures c.judge.ensures c.in-Run.is c.take_front.ensures
