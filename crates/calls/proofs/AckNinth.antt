@@ -8,6 +8,7 @@ use borrow.Author.Tests.{eq-eqb}
 use lib.Dec.{eqb, leb}
 use lib.ListN.{length, get_or, length-take}
 use lib.Seq.{get_or-take}
+use Rattle.buffer.specs.Pick.{pick}
 use Rattle.assign.specs.Assign.{place_of, regrouped}
 use Rattle.assign.specs.declared.Regrouped.{Regrouped}
 use Rattle.buffer.proofs.Tests.{split, pick-both, both}
@@ -51,7 +52,7 @@ after-there : (type : ℕ) (was : Number) (ts : List Tlv) → There was → Ther
 unfolding id_after
 after-there type was [] h = h
 after-there type was (t ∷ ts) h =
-    after-there type _ ts (pick-both There (eqb t.kind 55) _ _ (λ _. assigned-there type was (group_of t.value).kind (group_of t.value).id h) (λ _. h))
+    after-there type (pick (eqb t.kind 55) (id_assigned type was (group_of t.value).kind (group_of t.value).id) was) ts (pick-both There (eqb t.kind 55) _ _ (λ _. assigned-there type was (group_of t.value).kind (group_of t.value).id h) (λ _. h))
 
 -- a type that is held has an id
 held-there : (ps : List Pair) (i : ℕ) → i < length ps → There (id_held ps (get_or ps i no_pair).kind)
