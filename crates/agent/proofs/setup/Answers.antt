@@ -1,0 +1,6 @@
+-- `agent::setup` meets its contract: it is the state's.
+use Rattle.std.proofs.Common.{rules}
+use Rattle.agent.proofs.setup.Goals as goal
+
+pub returns : goal.returns
+returns c = c.set_up.ensures
