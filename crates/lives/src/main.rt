@@ -256,7 +256,7 @@ fn play<W: Write>(writer: &mut W, s: &[u8]) -> io::Result<()> {
 }
 
 fn main(rt: HostRuntime) -> io::Result<()> {
-    let mut space = [0u8; 524288];
+    let mut space = vec![in rt.alloc(); 0u8; 524288]?;
     let n = lines::read_full(&mut rt.reader(), &mut space);
     let mut writer = BufWriter::new(rt.alloc(), io::writer(&rt))?;
     play(&mut writer, buffer::front(&space, n))?;
