@@ -8,24 +8,26 @@
 #![tactic(auto)]
 
 use agent::State;
-use libc::STDIN_FILENO;
 use script::Line;
+use std::io;
+use std::io::{BufWriter, Write};
 
-fn show(outcome: u32, len: usize) {
-    lines::word(b" -> outcome=");
-    lines::number(outcome as u64);
-    lines::word(b" length=");
-    lines::number(len as u64);
+fn show<W: Write>(writer: &mut W, outcome: u32, len: usize) -> io::Result<()> {
+    lines::word(writer, b" -> outcome=")?;
+    lines::number(writer, outcome as u64)?;
+    lines::word(writer, b" length=")?;
+    lines::number(writer, len as u64)
 }
 
-fn datagram(
+fn datagram<W: Write>(
+    writer: &mut W,
     state: State,
     answers: &mut [u8; 4736],
     image: &mut [u8],
     out: &mut [u8],
     store: &[u8],
     line: &[u8],
-) -> State {
+) -> io::Result<State> {
     let mut bytes = [0u8; 2048];
     let n = script::unhex(script::value(line, b" in="), &mut bytes);
     let given = buffer::front(&bytes, n);
@@ -43,11 +45,17 @@ fn datagram(
         );
         i += 1;
     }
-    show(last.outcome, last.len);
-    last.state
+    show(writer, last.outcome, last.len)?;
+    Ok(last.state)
 }
 
-fn round(state: State, out: &mut [u8], store: &[u8], line: &[u8]) -> State {
+fn round<W: Write>(
+    writer: &mut W,
+    state: State,
+    out: &mut [u8],
+    store: &[u8],
+    line: &[u8],
+) -> io::Result<State> {
     let time = script::time(line);
     let random = script::number(line, b" r=");
     let first = agent::round(state, out, store, time, random);
@@ -59,11 +67,17 @@ fn round(state: State, out: &mut [u8], store: &[u8], line: &[u8]) -> State {
         last = r.answer;
         i += 1;
     }
-    show(last.outcome, last.len);
-    last.state
+    show(writer, last.outcome, last.len)?;
+    Ok(last.state)
 }
 
-fn report(state: State, out: &mut [u8], store: &[u8], line: &[u8]) -> State {
+fn report<W: Write>(
+    writer: &mut W,
+    state: State,
+    out: &mut [u8],
+    store: &[u8],
+    line: &[u8],
+) -> io::Result<State> {
     let time = script::time(line);
     let which = script::which(line);
     let mut last = agent::report(state, out, store, time, which);
@@ -73,11 +87,18 @@ fn report(state: State, out: &mut [u8], store: &[u8], line: &[u8]) -> State {
         last = agent::report(state, out, store, time, which);
         i += 1;
     }
-    show(last.outcome, last.len);
-    last.state
+    show(writer, last.outcome, last.len)?;
+    Ok(last.state)
 }
 
-fn due(state: State, answers: &[u8; 4736], out: &mut [u8], store: &[u8], line: &[u8]) -> State {
+fn due<W: Write>(
+    writer: &mut W,
+    state: State,
+    answers: &[u8; 4736],
+    out: &mut [u8],
+    store: &[u8],
+    line: &[u8],
+) -> io::Result<State> {
     let time = script::time(line);
     let mut last = agent::answer_due(state, answers, out, store, time);
     let times = script::number(line, b" times=");
@@ -86,50 +107,65 @@ fn due(state: State, answers: &[u8; 4736], out: &mut [u8], store: &[u8], line: &
         last = agent::answer_due(state, answers, out, store, time);
         i += 1;
     }
-    show(last.outcome, last.len);
-    last.state
+    show(writer, last.outcome, last.len)?;
+    Ok(last.state)
 }
 
 // A call that is lent buffers. Other lines are no calls.
-fn lend(
+fn lend<W: Write>(
+    writer: &mut W,
     state: State,
     answers: &mut [u8; 4736],
     image: &mut [u8],
     store: &[u8],
     line: &[u8],
-) -> State {
+) -> io::Result<State> {
     let mut out = [0u8; 1280];
     if script::stands(line, 0, b"datagram ") {
-        return datagram(state, answers, image, &mut out, store, line);
+        return datagram(writer, state, answers, image, &mut out, store, line);
     }
     if script::stands(line, 0, b"due ") {
-        return due(state, answers, &mut out, store, line);
+        return due(writer, state, answers, &mut out, store, line);
     }
     if script::stands(line, 0, b"round ") {
-        return round(state, &mut out, store, line);
+        return round(writer, state, &mut out, store, line);
     }
     if script::stands(line, 0, b"report ") {
-        return report(state, &mut out, store, line);
+        return report(writer, state, &mut out, store, line);
     }
-    state
+    Ok(state)
 }
 
 // Lends as much of the image buffer as the setup says, and the store that `hex` spells.
-fn ask(state: State, answers: &mut [u8; 4736], image: &mut [u8], line: &[u8], hex: &[u8]) -> State {
+fn ask<W: Write>(
+    writer: &mut W,
+    state: State,
+    answers: &mut [u8; 4736],
+    image: &mut [u8],
+    line: &[u8],
+    hex: &[u8],
+) -> io::Result<State> {
     let mut bytes = [0u8; 8192];
     let n = script::unhex(hex, &mut bytes);
     let store = buffer::front(&bytes, n);
     let size = script::image_room(state, image.len());
-    lend(state, answers, &mut image[..size], store, line)
+    lend(writer, state, answers, &mut image[..size], store, line)
 }
 
 // A call by its name; a setup begins with another device.
-fn act(state: State, answers: &mut [u8; 4736], image: &mut [u8], line: &[u8], hex: &[u8]) -> State {
+fn act<W: Write>(
+    writer: &mut W,
+    state: State,
+    answers: &mut [u8; 4736],
+    image: &mut [u8],
+    line: &[u8],
+    hex: &[u8],
+) -> io::Result<State> {
     if script::stands(line, 0, b"setup ") {
         let made = script::set_up(line);
-        return made.state;
+        return Ok(made.state);
     }
-    ask(state, answers, image, line, hex)
+    ask(writer, state, answers, image, line, hex)
 }
 
 // What a line is printed by: its name, or its first word.
@@ -141,20 +177,21 @@ fn label(line: &[u8]) -> &[u8] {
     name
 }
 
-fn play_line(
+fn play_line<W: Write>(
+    writer: &mut W,
     state: State,
     answers: &mut [u8; 4736],
     image: &mut [u8],
     line: &[u8],
     hex: &[u8],
-) -> State {
-    lines::word(label(line));
-    let next = act(state, answers, image, line, hex);
-    lines::word(b"\n");
-    next
+) -> io::Result<State> {
+    lines::word(writer, label(line))?;
+    let next = act(writer, state, answers, image, line, hex)?;
+    lines::word(writer, b"\n")?;
+    Ok(next)
 }
 
-fn play(s: &[u8]) {
+fn play<W: Write>(writer: &mut W, s: &[u8]) -> io::Result<()> {
     let mut answers = [0u8; 4736];
     let mut image = [0u8; 1048576];
     let none = script::set_up(b"");
@@ -165,18 +202,22 @@ fn play(s: &[u8]) {
         let line = script::line_at(s, at);
         held = script::held(s, held, line);
         state = play_line(
+            writer,
             state,
             &mut answers,
             &mut image,
             script::of(s, line),
             script::store_of(s, held, line),
-        );
+        )?;
         at = line.end;
     }
+    Ok(())
 }
 
-fn main() {
+fn main(rt: HostRuntime) -> io::Result<()> {
     let mut space = [0u8; 65536];
-    let n = io::read_full(STDIN_FILENO, &mut space);
-    play(buffer::front(&space, n));
+    let n = lines::read_full(&mut rt.reader(), &mut space);
+    let mut writer = BufWriter::new(rt.alloc(), io::writer(&rt))?;
+    play(&mut writer, buffer::front(&space, n))?;
+    writer.flush()
 }

@@ -4,29 +4,25 @@
 // to meet is those listings in the order of the arguments.
 #![tactic(auto)]
 
+use std::io::{BufWriter, Write};
+use std::rt::Files;
+use std::{env, fs, io};
 
 // Reads a file whole and lists it; one byte more than a capture may have, so that a longer one is told.
-fn list_file(path: &[u8]) {
-    let file = os::open_read(path);
-    if file < 0 {
-        os::fail(path);
-        return;
-    }
+fn list_file<W: Write>(writer: &mut W, rt: &(impl Files + Eprint), path: &str) -> io::Result<()> {
+    let mut file = match fs::open(rt, path) {
+        Ok(file) => file,
+        Err(e) => return eprintln!(rt; "{path}: {e}"),
+    };
     let mut space = [0u8; 65537];
-    let n = io::read_full(file, &mut space);
-    libc::close(file);
-    lister::list(buffer::front(&space, n));
+    let n = lines::read_full(&mut file, &mut space);
+    lister::list(writer, buffer::front(&space, n))
 }
 
-fn main() {
-    let mut i = 1;
-    while i <= 64 {
-        let mut path = io::buffer();
-        let n = os::arg(i, &mut path);
-        if os::errno() != 0 {
-            return;
-        }
-        list_file(buffer::front(&path, n));
-        i += 1;
+fn main(rt: HostRuntime) -> io::Result<()> {
+    let mut writer = BufWriter::new(rt.alloc(), io::writer(&rt))?;
+    for path in env::args(&rt)?.skip(1).take(64) {
+        list_file(&mut writer, &rt, path.as_str())?;
     }
+    writer.flush()
 }

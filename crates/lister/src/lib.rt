@@ -9,6 +9,8 @@ ghost use Rattle.lister.specs.Line.{listed_device, call_of, Listed};
 
 use agent::{Length, Point, Settings, Setup, State};
 use capture::{Capture, Entry};
+use std::io;
+use std::io::Write;
 
 // A line's length, and the state behind it.
 #[derive(Clone, Copy)]
@@ -56,14 +58,15 @@ pub fn put_entry(
 }
 
 // Prints the line of an entry.
-fn list_entry(
+fn list_entry<W: Write>(
+    writer: &mut W,
     state: State,
     answers: &mut [u8; 4736],
     image: &mut [u8],
     n: u32,
     bytes: &[u8],
     entry: Entry,
-) -> State {
+) -> io::Result<State> {
     let mut out = [0u8; 2600];
     let line = put_entry(
         state,
@@ -75,12 +78,12 @@ fn list_entry(
         entry.verdict,
         &mut out,
     );
-    lines::word(buffer::front(&out, line.len));
-    line.state
+    lines::word(writer, buffer::front(&out, line.len))?;
+    Ok(line.state)
 }
 
 // Prints the lines of so many entries, whose index begins at `index`.
-fn list_entries(s: &[u8], index: u32, count: u16) {
+fn list_entries<W: Write>(writer: &mut W, s: &[u8], index: u32, count: u16) -> io::Result<()> {
     let mut answers = [0u8; 4736];
     let mut image = [0u8; 4096];
     let made = device();
@@ -90,31 +93,39 @@ fn list_entries(s: &[u8], index: u32, count: u16) {
     while n < count {
         let entry = capture::entry_at(s, index as usize + n as usize * 8);
         let bytes = capture::bytes_at(s, start, entry.len);
-        state = list_entry(state, &mut answers, &mut image, n as u32, bytes, entry);
+        state = list_entry(
+            writer,
+            state,
+            &mut answers,
+            &mut image,
+            n as u32,
+            bytes,
+            entry,
+        )?;
         start += entry.len as usize;
         n += 1;
     }
+    Ok(())
 }
 
-fn list_header() {
+fn list_header<W: Write>(writer: &mut W) -> io::Result<()> {
     let mut out = [0u8; 32];
     let n = text::put_header(&mut out, 0);
-    lines::word(buffer::front(&out, n));
+    lines::word(writer, buffer::front(&out, n))
 }
 
-fn list_refusal(outcome: u32) {
+fn list_refusal<W: Write>(writer: &mut W, outcome: u32) -> io::Result<()> {
     let mut out = [0u8; 32];
     let n = text::put_refusal(&mut out, outcome);
-    lines::word(buffer::front(&out, n));
+    lines::word(writer, buffer::front(&out, n))
 }
 
 // Prints the listing of a file; one that is no capture has a single line.
-pub fn list(s: &[u8]) {
-    list_header();
+pub fn list<W: Write>(writer: &mut W, s: &[u8]) -> io::Result<()> {
+    list_header(writer)?;
     let capture = capture::read(s);
     let Capture::Index(index, count) = capture else {
-        list_refusal(capture::outcome_of(capture));
-        return;
+        return list_refusal(writer, capture::outcome_of(capture));
     };
-    list_entries(s, index, count);
+    list_entries(writer, s, index, count)
 }

@@ -1,11 +1,14 @@
 // Lists the capture on standard input: each datagram's number, outcome, reply length and reply.
 #![tactic(auto)]
 
-use libc::STDIN_FILENO;
+use std::io;
+use std::io::{BufWriter, Write};
 
-fn main() {
+fn main(rt: HostRuntime) -> io::Result<()> {
     // One byte more than a capture may have, so that a longer file is told.
     let mut space = [0u8; 65537];
-    let n = io::read_full(STDIN_FILENO, &mut space);
-    lister::list(buffer::front(&space, n));
+    let n = lines::read_full(&mut rt.reader(), &mut space);
+    let mut writer = BufWriter::new(rt.alloc(), io::writer(&rt))?;
+    lister::list(&mut writer, buffer::front(&space, n))?;
+    writer.flush()
 }

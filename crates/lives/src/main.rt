@@ -17,19 +17,20 @@ mod show;
 ghost use Rattle.std.specs.Prelude.{◌≤◌};
 
 use agent::State;
-use libc::STDIN_FILENO;
 use script::Line;
+use std::io;
+use std::io::{BufWriter, Write};
 
-fn set_up(line: &[u8]) -> State {
+fn set_up<W: Write>(writer: &mut W, line: &[u8]) -> io::Result<State> {
     let made = script::set_up(line);
-    show::number(b" -> outcome=", made.outcome as u64);
-    made.state
+    show::number(writer, b" -> outcome=", made.outcome as u64)?;
+    Ok(made.state)
 }
 
-fn first_wait(state: State, line: &[u8]) -> State {
+fn first_wait<W: Write>(writer: &mut W, state: State, line: &[u8]) -> io::Result<State> {
     let wait = agent::first_wait(state, script::number(line, b" r="));
-    show::number(b" -> ", wait.0 as u64);
-    state
+    show::number(writer, b" -> ", wait.0 as u64)?;
+    Ok(state)
 }
 
 // How much of an output of 1,280 bytes is lent.
@@ -43,7 +44,13 @@ fn room(line: &[u8]) -> usize
     n
 }
 
-fn round(state: State, out: &mut [u8], store: &[u8], line: &[u8]) -> State {
+fn round<W: Write>(
+    writer: &mut W,
+    state: State,
+    out: &mut [u8],
+    store: &[u8],
+    line: &[u8],
+) -> io::Result<State> {
     let r = agent::round(
         state,
         out,
@@ -51,28 +58,35 @@ fn round(state: State, out: &mut [u8], store: &[u8], line: &[u8]) -> State {
         script::time(line),
         script::number(line, b" r="),
     );
-    show::number(b" -> outcome=", r.answer.outcome as u64);
-    show::number(b" backoff=", r.backoff.0 as u64);
-    show::number(b" rest=", r.rest.0 as u64);
-    show::bytes(b" sent=", out, r.answer.len);
-    r.answer.state
+    show::number(writer, b" -> outcome=", r.answer.outcome as u64)?;
+    show::number(writer, b" backoff=", r.backoff.0 as u64)?;
+    show::number(writer, b" rest=", r.rest.0 as u64)?;
+    show::bytes(writer, b" sent=", out, r.answer.len)?;
+    Ok(r.answer.state)
 }
 
-fn report(state: State, out: &mut [u8], store: &[u8], line: &[u8]) -> State {
+fn report<W: Write>(
+    writer: &mut W,
+    state: State,
+    out: &mut [u8],
+    store: &[u8],
+    line: &[u8],
+) -> io::Result<State> {
     let r = agent::report(state, out, store, script::time(line), script::which(line));
-    show::number(b" -> outcome=", r.outcome as u64);
-    show::bytes(b" sent=", out, r.len);
-    r.state
+    show::number(writer, b" -> outcome=", r.outcome as u64)?;
+    show::bytes(writer, b" sent=", out, r.len)?;
+    Ok(r.state)
 }
 
-fn datagram(
+fn datagram<W: Write>(
+    writer: &mut W,
     state: State,
     answers: &mut [u8; 4736],
     image: &mut [u8],
     out: &mut [u8],
     store: &[u8],
     line: &[u8],
-) -> State {
+) -> io::Result<State> {
     let mut bytes = [0u8; 2048];
     let n = script::unhex(script::value(line, b" in="), &mut bytes);
     let given = buffer::front(&bytes, n);
@@ -82,64 +96,85 @@ fn datagram(
     let r = agent::datagram(
         state, answers, image, out, given, store, time, verdict, random,
     );
-    show::number(b" -> outcome=", r.outcome as u64);
-    show::bytes(b" reply=", out, r.len);
-    show::number(b" padded=", r.padded as u64);
-    r.state
+    show::number(writer, b" -> outcome=", r.outcome as u64)?;
+    show::bytes(writer, b" reply=", out, r.len)?;
+    show::number(writer, b" padded=", r.padded as u64)?;
+    Ok(r.state)
 }
 
-fn due(state: State, answers: &[u8; 4736], out: &mut [u8], store: &[u8], line: &[u8]) -> State {
+fn due<W: Write>(
+    writer: &mut W,
+    state: State,
+    answers: &[u8; 4736],
+    out: &mut [u8],
+    store: &[u8],
+    line: &[u8],
+) -> io::Result<State> {
     let r = agent::answer_due(state, answers, out, store, script::time(line));
-    show::number(b" -> outcome=", r.outcome as u64);
+    show::number(writer, b" -> outcome=", r.outcome as u64)?;
     let letters = r.url.bytes;
-    show::url(b" url=", letters, r.url.len);
-    show::bytes(b" sent=", out, r.len);
-    r.state
+    show::url(writer, b" url=", letters, r.url.len)?;
+    show::bytes(writer, b" sent=", out, r.len)?;
+    Ok(r.state)
 }
 
 // A line that only looks.
-fn look(state: State, image: &[u8], line: &[u8]) {
+fn look<W: Write>(writer: &mut W, state: State, image: &[u8], line: &[u8]) -> io::Result<()> {
     if script::stands(line, 0, b"image") {
-        show::image(state, image);
+        show::image(writer, state, image)?;
     }
     if script::stands(line, 0, b"progress") {
-        show::progress(state);
+        show::progress(writer, state)?;
     }
     if script::stands(line, 0, b"complete") {
-        show::complete(b" -> ", state);
+        show::complete(writer, b" -> ", state)?;
     }
     if script::stands(line, 0, b"look ") {
-        show::kept(state, image, script::number(line, b" len=") as usize);
+        show::kept(
+            writer,
+            state,
+            image,
+            script::number(line, b" len=") as usize,
+        )?;
     }
+    Ok(())
 }
 
 // A call that is lent buffers, or a line that only looks.
-fn lend(
+fn lend<W: Write>(
+    writer: &mut W,
     state: State,
     answers: &mut [u8; 4736],
     image: &mut [u8],
     out: &mut [u8],
     store: &[u8],
     line: &[u8],
-) -> State {
+) -> io::Result<State> {
     if script::stands(line, 0, b"datagram ") {
-        return datagram(state, answers, image, out, store, line);
+        return datagram(writer, state, answers, image, out, store, line);
     }
     if script::stands(line, 0, b"due ") {
-        return due(state, answers, out, store, line);
+        return due(writer, state, answers, out, store, line);
     }
     if script::stands(line, 0, b"round ") {
-        return round(state, out, store, line);
+        return round(writer, state, out, store, line);
     }
     if script::stands(line, 0, b"report ") {
-        return report(state, out, store, line);
+        return report(writer, state, out, store, line);
     }
-    look(state, image, line);
-    state
+    look(writer, state, image, line)?;
+    Ok(state)
 }
 
 // Lends as much of the buffers as the line and the setup say, and the store that `hex` spells.
-fn ask(state: State, answers: &mut [u8; 4736], image: &mut [u8], line: &[u8], hex: &[u8]) -> State {
+fn ask<W: Write>(
+    writer: &mut W,
+    state: State,
+    answers: &mut [u8; 4736],
+    image: &mut [u8],
+    line: &[u8],
+    hex: &[u8],
+) -> io::Result<State> {
     let mut bytes = [0u8; 8192];
     let n = script::unhex(hex, &mut bytes);
     let store = buffer::front(&bytes, n);
@@ -147,6 +182,7 @@ fn ask(state: State, answers: &mut [u8; 4736], image: &mut [u8], line: &[u8], he
     let len = room(line);
     let size = script::image_room(state, image.len());
     lend(
+        writer,
         state,
         answers,
         &mut image[..size],
@@ -157,38 +193,46 @@ fn ask(state: State, answers: &mut [u8; 4736], image: &mut [u8], line: &[u8], he
 }
 
 // A call by its name; a setup begins a life, over an image buffer of zeros. Other lines are no calls.
-fn act(state: State, answers: &mut [u8; 4736], image: &mut [u8], line: &[u8], hex: &[u8]) -> State {
-    if script::stands(line, 0, b"setup ") {
-        let zeros = [0u8; 4096];
-        buffer::copy(image, &zeros);
-        return set_up(line);
-    }
-    if script::stands(line, 0, b"first_wait ") {
-        return first_wait(state, line);
-    }
-    if script::stands(line, 0, b"boot") {
-        return agent::boot(state);
-    }
-    if script::stands(line, 0, b"padding ") {
-        return agent::refuse_padding(state, script::number(line, b" refused=") == 1);
-    }
-    ask(state, answers, image, line, hex)
-}
-
-fn play_line(
+fn act<W: Write>(
+    writer: &mut W,
     state: State,
     answers: &mut [u8; 4736],
     image: &mut [u8],
     line: &[u8],
     hex: &[u8],
-) -> State {
-    lines::word(line);
-    let next = act(state, answers, image, line, hex);
-    lines::word(b"\n");
-    next
+) -> io::Result<State> {
+    if script::stands(line, 0, b"setup ") {
+        let zeros = [0u8; 4096];
+        buffer::copy(image, &zeros);
+        return set_up(writer, line);
+    }
+    if script::stands(line, 0, b"first_wait ") {
+        return first_wait(writer, state, line);
+    }
+    if script::stands(line, 0, b"boot") {
+        return Ok(agent::boot(state));
+    }
+    if script::stands(line, 0, b"padding ") {
+        return Ok(agent::refuse_padding(state, script::number(line, b" refused=") == 1));
+    }
+    ask(writer, state, answers, image, line, hex)
 }
 
-fn play(s: &[u8]) {
+fn play_line<W: Write>(
+    writer: &mut W,
+    state: State,
+    answers: &mut [u8; 4736],
+    image: &mut [u8],
+    line: &[u8],
+    hex: &[u8],
+) -> io::Result<State> {
+    lines::word(writer, line)?;
+    let next = act(writer, state, answers, image, line, hex)?;
+    lines::word(writer, b"\n")?;
+    Ok(next)
+}
+
+fn play<W: Write>(writer: &mut W, s: &[u8]) -> io::Result<()> {
     let mut answers = [0u8; 4736];
     let mut image = [0u8; 4096];
     let none = script::set_up(b"");
@@ -199,18 +243,22 @@ fn play(s: &[u8]) {
         let line = script::line_at(s, at);
         held = script::held(s, held, line);
         state = play_line(
+            writer,
             state,
             &mut answers,
             &mut image,
             script::of(s, line),
             script::store_of(s, held, line),
-        );
+        )?;
         at = line.end;
     }
+    Ok(())
 }
 
-fn main() {
-    let mut space = [0u8; 524288];
-    let n = io::read_full(STDIN_FILENO, &mut space);
-    play(buffer::front(&space, n));
+fn main(rt: HostRuntime) -> io::Result<()> {
+    let mut space = vec![in rt.alloc(); 0u8; 524288]?;
+    let n = lines::read_full(&mut rt.reader(), &mut space);
+    let mut writer = BufWriter::new(rt.alloc(), io::writer(&rt))?;
+    play(&mut writer, buffer::front(&space, n))?;
+    writer.flush()
 }

@@ -1,15 +1,17 @@
 // The parts of an answer: values behind their keys, and the open image.
 use agent::State;
+use std::io;
+use std::io::Write;
 
-pub fn number(key: &[u8], n: u64) {
-    lines::word(key);
-    lines::number(n);
+pub fn number<W: Write>(writer: &mut W, key: &[u8], n: u64) -> io::Result<()> {
+    lines::word(writer, key)?;
+    lines::number(writer, n)
 }
 
 // The first bytes of a buffer, as what went out.
-pub fn bytes(key: &[u8], out: &[u8], len: usize) {
-    lines::word(key);
-    lines::hex(buffer::front(out, len));
+pub fn bytes<W: Write>(writer: &mut W, key: &[u8], out: &[u8], len: usize) -> io::Result<()> {
+    lines::word(writer, key)?;
+    lines::hex(writer, buffer::front(out, len))
 }
 
 // How many bytes of the bitmap are shown: those that have a block's bit, at most 16.
@@ -20,8 +22,8 @@ fn shown(blocks: u32) -> usize {
     (blocks as usize + 7) / 8
 }
 
-fn bitmap(map: [u8; 128], blocks: u32) {
-    bytes(b" bitmap=", &map, shown(blocks));
+fn bitmap<W: Write>(writer: &mut W, map: [u8; 128], blocks: u32) -> io::Result<()> {
+    bytes(writer, b" bitmap=", &map, shown(blocks))
 }
 
 // Bytes as one number, high byte first, modulo 65,521.
@@ -36,35 +38,35 @@ fn remainder(s: &[u8]) -> u64 {
 }
 
 // Whether no block of the open image is missing.
-pub fn complete(key: &[u8], state: State) {
-    number(key, agent::is_complete(state) as u64);
+pub fn complete<W: Write>(writer: &mut W, key: &[u8], state: State) -> io::Result<()> {
+    number(writer, key, agent::is_complete(state) as u64)
 }
 
 // How far the open image is.
-pub fn progress(state: State) {
+pub fn progress<W: Write>(writer: &mut W, state: State) -> io::Result<()> {
     let p = agent::progress(state);
-    number(b" -> held=", p.held as u64);
-    number(b" blocks=", p.blocks as u64);
-    number(b" complete=", p.complete as u64);
+    number(writer, b" -> held=", p.held as u64)?;
+    number(writer, b" blocks=", p.blocks as u64)?;
+    number(writer, b" complete=", p.complete as u64)
 }
 
-pub fn url(key: &[u8], letters: [u8; 128], len: usize) {
-    bytes(key, &letters, len);
+pub fn url<W: Write>(writer: &mut W, key: &[u8], letters: [u8; 128], len: usize) -> io::Result<()> {
+    bytes(writer, key, &letters, len)
 }
 
 // The URL held, and the first bytes of the image buffer.
-pub fn kept(state: State, buffer: &[u8], len: usize) {
+pub fn kept<W: Write>(writer: &mut W, state: State, buffer: &[u8], len: usize) -> io::Result<()> {
     let letters = state.registration.url.bytes;
-    url(b" -> url=", letters, state.registration.url.len);
-    bytes(b" image=", buffer, len);
+    url(writer, b" -> url=", letters, state.registration.url.len)?;
+    bytes(writer, b" image=", buffer, len)
 }
 
 // The open image: its blocks, the front of its bitmap, and whether none is missing; and the image buffer as one number.
-pub fn image(state: State, buffer: &[u8]) {
+pub fn image<W: Write>(writer: &mut W, state: State, buffer: &[u8]) -> io::Result<()> {
     let p = agent::progress(state);
-    number(b" -> blocks=", p.blocks as u64);
+    number(writer, b" -> blocks=", p.blocks as u64)?;
     let map = state.images.image.bitmap;
-    bitmap(map, p.blocks);
-    complete(b" complete=", state);
-    number(b" sum=", remainder(buffer));
+    bitmap(writer, map, p.blocks)?;
+    complete(writer, b" complete=", state)?;
+    number(writer, b" sum=", remainder(buffer))
 }

@@ -19,8 +19,8 @@ pub fn set_up(line: &[u8]) -> Setup {
     let mut vendor = [0u8; 256];
     let mut hash = [0u8; 256];
     let mut url = [0u8; 256];
-    let a = crate::unhex(crate::value(line, b" hw_id="), &mut hw_id);
-    let b = crate::unhex(crate::value(line, b" vendor_hw_id="), &mut vendor);
+    let a = crate::unhex(crate::value(line, b" hwId="), &mut hw_id);
+    let b = crate::unhex(crate::value(line, b" vendorHwId="), &mut vendor);
     let c = crate::unhex(crate::value(line, b" hash="), &mut hash);
     let d = crate::unhex(crate::value(line, b" url="), &mut url);
     agent::setup(

@@ -2,31 +2,33 @@
 // by protoc; the last eleven are damaged or padded.
 use crate::say;
 use protobuf::{Field, Step};
+use std::io;
+use std::io::Write;
 
-fn print_field(s: &[u8], f: Field) {
-    lines::number(f.number as u64);
-    say::number(f.wire as u64);
+fn print_field<W: Write>(writer: &mut W, s: &[u8], f: Field) -> io::Result<()> {
+    lines::number(writer, f.number as u64)?;
+    say::number(writer, f.wire as u64)?;
     if f.wire == 0 {
-        say::number(f.value);
+        say::number(writer, f.value)?;
     } else {
-        say::bytes(buffer::part(s, f.start, f.end));
+        say::bytes(writer, buffer::part(s, f.start, f.end))?;
     }
-    lines::word(b"\n");
+    lines::word(writer, b"\n")
 }
 
-fn print_message(s: &[u8]) {
+fn print_message<W: Write>(writer: &mut W, s: &[u8]) -> io::Result<()> {
     let mut at = 0;
     while at < s.len() {
         let Step::Field(f) = protobuf::field_at(s, at) else {
-            lines::word(b"unreadable\n");
-            return;
+            return lines::word(writer, b"unreadable\n");
         };
-        print_field(s, f);
+        print_field(writer, s, f)?;
         at = f.end;
     }
+    Ok(())
 }
 
-pub fn print(kind: u64, v: &[u8]) {
-    say::record(kind, v);
-    print_message(v);
+pub fn print<W: Write>(writer: &mut W, kind: u64, v: &[u8]) -> io::Result<()> {
+    say::record(writer, kind, v)?;
+    print_message(writer, v)
 }

@@ -8,118 +8,108 @@
 use crate::say;
 use coap::{CoapOption, Datagram, Frame, Next};
 use request::{Path, Query};
+use std::io;
+use std::io::Write;
 
 // A blank and a code: class, point, and two digits of detail.
-fn say_code(code: u8) {
+fn say_code<W: Write>(writer: &mut W, code: u8) -> io::Result<()> {
     let c = buffer::wide(code);
-    say::number(c / 32);
-    lines::word(b".");
-    lines::number(c % 32 / 10);
-    lines::number(c % 32 % 10);
+    say::number(writer, c / 32)?;
+    lines::word(writer, b".")?;
+    lines::number(writer, c % 32 / 10)?;
+    lines::number(writer, c % 32 % 10)
 }
 
-fn print_option(s: &[u8], o: CoapOption) {
-    lines::word(b"option");
-    say::number(o.number);
-    say::bytes(buffer::part(s, o.start, o.end));
-    lines::word(b"\n");
+fn print_option<W: Write>(writer: &mut W, s: &[u8], o: CoapOption) -> io::Result<()> {
+    lines::word(writer, b"option")?;
+    say::number(writer, o.number)?;
+    say::bytes(writer, buffer::part(s, o.start, o.end))?;
+    lines::word(writer, b"\n")
 }
 
-fn print_options(s: &[u8], from: usize) {
+fn print_options<W: Write>(writer: &mut W, s: &[u8], from: usize) -> io::Result<()> {
     let mut at = from;
     let mut before = 0;
     loop {
         let Next::Option(o) = coap::option_at(s, at, before) else {
-            return;
+            return Ok(());
         };
-        print_option(s, o);
+        print_option(writer, s, o)?;
         at = o.end;
         before = o.number;
     }
 }
 
-fn print_path(path: Path) {
+fn print_path<W: Write>(writer: &mut W, path: Path) -> io::Result<()> {
     match path {
-        Path::All => {
-            lines::word(b" path all");
-        }
+        Path::All => lines::word(writer, b" path all"),
         Path::Record(id) => {
-            lines::word(b" path record");
-            say::number(id as u64);
+            lines::word(writer, b" path record")?;
+            say::number(writer, id as u64)
         }
-        Path::Other => {
-            lines::word(b" path other");
-        }
+        Path::Other => lines::word(writer, b" path other"),
     }
 }
 
 // Queries but `a=` and `r=`, whose rules `lives` runs.
-fn print_query(s: &[u8], query: Query) {
-    lines::word(b" query");
+fn print_query<W: Write>(writer: &mut W, s: &[u8], query: Query) -> io::Result<()> {
+    lines::word(writer, b" query")?;
     match query {
-        Query::Nothing => {
-            lines::word(b" none");
-        }
+        Query::Nothing => lines::word(writer, b" none"),
         Query::One(start, end) => {
             let ids = request::asked_ids(buffer::part(s, start, end));
             if ids.count == 0 {
-                lines::word(b" bad");
+                lines::word(writer, b" bad")?;
             }
-            say::ids(ids);
+            say::ids(writer, ids)
         }
-        Query::Several => {
-            lines::word(b" several");
-        }
+        Query::Several => lines::word(writer, b" several"),
     }
 }
 
-fn print_request(s: &[u8], from: usize) {
+fn print_request<W: Write>(writer: &mut W, s: &[u8], from: usize) -> io::Result<()> {
     let first = request::look_over(s, from);
     if first.refused {
-        lines::word(b"request refused");
+        lines::word(writer, b"request refused")?;
     } else {
-        lines::word(b"request taken");
+        lines::word(writer, b"request taken")?;
     }
-    print_path(request::request_path(s, from));
-    print_query(s, request::queries(s, from, request::QUERY));
-    lines::word(b"\n");
+    print_path(writer, request::request_path(s, from))?;
+    print_query(writer, s, request::queries(s, from, request::QUERY))?;
+    lines::word(writer, b"\n")
 }
 
-fn print_frame(s: &[u8], f: Frame) {
-    lines::word(b"frame");
-    say::number(f.kind as u64);
-    say_code(f.code);
-    say::number(f.id as u64);
+fn print_frame<W: Write>(writer: &mut W, s: &[u8], f: Frame) -> io::Result<()> {
+    lines::word(writer, b"frame")?;
+    say::number(writer, f.kind as u64)?;
+    say_code(writer, f.code)?;
+    say::number(writer, f.id as u64)?;
     let payload = f.payload;
     if payload <= s.len() {
-        say::bytes(&s[payload..]);
+        say::bytes(writer, &s[payload..])?;
     }
-    lines::word(b"\n");
-    print_options(s, f.options);
+    lines::word(writer, b"\n")?;
+    print_options(writer, s, f.options)?;
     match f.code {
-        1..=31 => print_request(s, f.options),
-        _ => {}
+        1..=31 => print_request(writer, s, f.options),
+        _ => Ok(()),
     }
 }
 
-fn print_datagram(s: &[u8]) {
+fn print_datagram<W: Write>(writer: &mut W, s: &[u8]) -> io::Result<()> {
     match coap::read(s) {
-        Datagram::Frame(f) => {
-            print_frame(s, f);
-        }
+        Datagram::Frame(f) => print_frame(writer, s, f),
         Datagram::Malformed(kind, id) => {
-            lines::word(b"malformed");
-            say::number(kind as u64);
-            say::number(id as u64);
-            lines::word(b"\n");
+            lines::word(writer, b"malformed")?;
+            say::number(writer, kind as u64)?;
+            say::number(writer, id as u64)?;
+            lines::word(writer, b"\n")
         }
-        Datagram::Foreign => {
-            lines::word(b"foreign\n");
-        }
+        Datagram::Foreign => lines::word(writer, b"foreign\n"),
     }
 }
 
-pub fn print(kind: u64, v: &[u8]) {
-    say::record(kind, v);
-    print_datagram(v);
+pub fn print<W: Write>(writer: &mut W, kind: u64, v: &[u8]) -> io::Result<()> {
+    say::record(writer, kind, v)?;
+    print_datagram(writer, v)
 }

@@ -2,39 +2,41 @@
 use csmp::{Hash, Image, Index, Name, SessionId, Version};
 use decimal::Ids;
 use schedule::{Interval, Length, Moment, Point};
+use std::io;
+use std::io::Write;
 
 // A written record: the first n bytes, or `full` where it did not fit.
-fn made(out: &[u8], n: usize) {
+fn made<W: Write>(writer: &mut W, out: &[u8], n: usize) -> io::Result<()> {
     if n <= out.len() {
-        lines::hex(&out[..n]);
+        lines::hex(writer, &out[..n])?;
     } else {
-        lines::word(b"full");
+        lines::word(writer, b"full")?;
     }
-    lines::word(b"\n");
+    lines::word(writer, b"\n")
 }
 
-fn time_and_group() {
+fn time_and_group<W: Write>(writer: &mut W) -> io::Result<()> {
     let mut out = [0u8; 1024];
     let n = encode::put_time(&mut out, 0, Point(1700000000));
-    made(&out, n);
+    made(writer, &out, n)?;
     let m = encode::put_group(&mut out, 0, 1, 300);
-    made(&out, m);
+    made(writer, &out, m)
 }
 
 // A record that does not fit is not written.
-fn cut() {
+fn cut<W: Write>(writer: &mut W) -> io::Result<()> {
     let mut out = [0u8; 6];
     let n = encode::put_group(&mut out, 0, 1, 300);
-    made(&out, n);
+    made(writer, &out, n)
 }
 
-fn session() {
+fn session<W: Write>(writer: &mut W) -> io::Result<()> {
     let mut out = [0u8; 1024];
     let mut bytes = [0u8; 64];
     bytes[0] = b'a';
     bytes[1] = b'b';
     let n = encode::put_session(&mut out, 0, SessionId { bytes, len: 2 });
-    made(&out, n);
+    made(writer, &out, n)
 }
 
 fn listed(a: u32, b: u32) -> Ids {
@@ -43,29 +45,29 @@ fn listed(a: u32, b: u32) -> Ids {
 }
 
 // A report, one with an interval of 0, and one with nothing in it.
-fn reports() {
+fn reports<W: Write>(writer: &mut W) -> io::Result<()> {
     let mut out = [0u8; 1024];
     let every = Interval::Every(Length(60));
     let n = encode::put_report(&mut out, 0, every, listed(58, 4294967295));
-    made(&out, n);
+    made(writer, &out, n)?;
     let never = Interval::Every(Length(0));
     let m = encode::put_report(&mut out, 0, never, listed(0, 22));
-    made(&out, m);
+    made(writer, &out, m)?;
     let k = encode::put_report(&mut out, 0, Interval::Absent, decimal::no_ids());
-    made(&out, k);
+    made(writer, &out, k)
 }
 
-fn index() {
+fn index<W: Write>(writer: &mut W) -> io::Result<()> {
     let mut out = [0u8; 1024];
     let mut list = [0u32; 68];
     list[0] = 11;
     list[1] = 75;
     list[2] = 4294967295;
     let n = encode::put_index(&mut out, 0, Index { list, count: 3 });
-    made(&out, n);
+    made(writer, &out, n)
 }
 
-fn responses() {
+fn responses<W: Write>(writer: &mut W) -> io::Result<()> {
     let mut out = [0u8; 1024];
     let some = Hash {
         given: true,
@@ -78,18 +80,18 @@ fn responses() {
     let a = encode_image::put_response(&mut out, 0, 71, some, 0, Moment::Absent);
     let b = encode_image::put_response(&mut out, a, 72, none, 6, Moment::Absent);
     let n = encode_image::put_response(&mut out, b, 72, some, 0, Moment::At(Point(1)));
-    made(&out, n);
+    made(writer, &out, n)
 }
 
-fn running_and_backup() {
+fn running_and_backup<W: Write>(writer: &mut W) -> io::Result<()> {
     let mut out = [0u8; 1024];
     let n = encode_image::put_running(&mut out, 0, [0; 32]);
-    made(&out, n);
+    made(writer, &out, n)?;
     let m = encode_image::put_backup(&mut out, 0, [9; 32], Moment::At(Point(1700000000)));
-    made(&out, m);
+    made(writer, &out, m)
 }
 
-fn open() {
+fn open<W: Write>(writer: &mut W) -> io::Result<()> {
     let mut out = [0u8; 1024];
     let mut letters = [0u8; 128];
     letters[0] = b'f';
@@ -114,16 +116,16 @@ fn open() {
         held: 2,
     };
     let n = encode_image::put_open(&mut out, 0, image, 1, Moment::Absent);
-    made(&out, n);
+    made(writer, &out, n)
 }
 
-pub fn all() {
-    time_and_group();
-    cut();
-    session();
-    reports();
-    index();
-    responses();
-    running_and_backup();
-    open();
+pub fn all<W: Write>(writer: &mut W) -> io::Result<()> {
+    time_and_group(writer)?;
+    cut(writer)?;
+    session(writer)?;
+    reports(writer)?;
+    index(writer)?;
+    responses(writer)?;
+    running_and_backup(writer)?;
+    open(writer)
 }

@@ -12,42 +12,44 @@ mod messages;
 mod say;
 mod texts;
 
-use libc::STDIN_FILENO;
+use std::io;
+use std::io::{BufWriter, Write};
 use tlv::Taken;
 
-fn print_as(vectors: u64, kind: u64, v: &[u8]) {
+fn print_as<W: Write>(writer: &mut W, vectors: u64, kind: u64, v: &[u8]) -> io::Result<()> {
     match vectors {
-        1 => fields::print(kind, v),
-        2 => frames::print(kind, v),
-        3 => messages::print(kind, v),
-        4 => texts::print(v),
-        _ => lines::word(b"unknown\n"),
+        1 => fields::print(writer, kind, v),
+        2 => frames::print(writer, kind, v),
+        3 => messages::print(writer, kind, v),
+        4 => texts::print(writer, v),
+        _ => lines::word(writer, b"unknown\n"),
     }
 }
 
-fn print_vector(vectors: u64, s: &[u8]) {
+fn print_vector<W: Write>(writer: &mut W, vectors: u64, s: &[u8]) -> io::Result<()> {
     let Taken::Record(r) = tlv::take_record(s, 0) else {
-        lines::word(b"unreadable\n");
-        return;
+        return lines::word(writer, b"unreadable\n");
     };
-    print_as(vectors, r.kind, buffer::part(s, r.start, r.end));
+    print_as(writer, vectors, r.kind, buffer::part(s, r.start, r.end))
 }
 
-fn print_vectors(s: &[u8]) {
+fn print_vectors<W: Write>(writer: &mut W, s: &[u8]) -> io::Result<()> {
     let mut at = 0;
     while at < s.len() {
         let Taken::Record(r) = tlv::take_record(s, at) else {
-            lines::word(b"unreadable\n");
-            return;
+            return lines::word(writer, b"unreadable\n");
         };
-        print_vector(r.kind, buffer::part(s, r.start, r.end));
+        print_vector(writer, r.kind, buffer::part(s, r.start, r.end))?;
         at = r.end;
     }
+    Ok(())
 }
 
-fn main() {
+fn main(rt: HostRuntime) -> io::Result<()> {
     let mut space = [0u8; 16384];
-    let n = io::read_full(STDIN_FILENO, &mut space);
-    print_vectors(&space[..n]);
-    made::all();
+    let n = lines::read_full(&mut rt.reader(), &mut space);
+    let mut writer = BufWriter::new(rt.alloc(), io::writer(&rt))?;
+    print_vectors(&mut writer, &space[..n])?;
+    made::all(&mut writer)?;
+    writer.flush()
 }

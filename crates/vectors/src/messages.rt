@@ -4,183 +4,179 @@ use crate::say;
 use decimal::Ids;
 use protobuf::{Bytes, Flag, Number};
 use schedule::{Interval, Moment};
+use std::io;
+use std::io::Write;
 
-fn readable(b: bool) {
+fn readable<W: Write>(writer: &mut W, b: bool) -> io::Result<()> {
     if b {
-        lines::word(b"readable");
+        lines::word(writer, b"readable")
     } else {
-        lines::word(b"unreadable");
+        lines::word(writer, b"unreadable")
     }
 }
 
 // Bytes in hex; absent ones have a dash, so none are called empty.
-fn bytes(v: &[u8], place: Bytes) {
+fn bytes<W: Write>(writer: &mut W, v: &[u8], place: Bytes) -> io::Result<()> {
     let Bytes::At(start, end) = place else {
-        lines::word(b" -");
-        return;
+        return lines::word(writer, b" -");
     };
     if start == end {
-        lines::word(b" empty");
-        return;
+        return lines::word(writer, b" empty");
     }
-    say::bytes(buffer::part(v, start, end));
+    say::bytes(writer, buffer::part(v, start, end))
 }
 
-fn given(n: Number) {
+fn given<W: Write>(writer: &mut W, n: Number) -> io::Result<()> {
     let Number::Given(x) = n else {
-        lines::word(b" -");
-        return;
+        return lines::word(writer, b" -");
     };
-    say::number(x as u64);
+    say::number(writer, x as u64)
 }
 
-fn flag(f: Flag) {
+fn flag<W: Write>(writer: &mut W, f: Flag) -> io::Result<()> {
     let Flag::Given(b) = f else {
-        lines::word(b" -");
-        return;
+        return lines::word(writer, b" -");
     };
     if b {
-        lines::word(b" true");
+        lines::word(writer, b" true")
     } else {
-        lines::word(b" false");
+        lines::word(writer, b" false")
     }
 }
 
-fn moment(m: Moment) {
+fn moment<W: Write>(writer: &mut W, m: Moment) -> io::Result<()> {
     let Moment::At(p) = m else {
-        lines::word(b" -");
-        return;
+        return lines::word(writer, b" -");
     };
-    say::number(p.0 as u64);
+    say::number(writer, p.0 as u64)
 }
 
-fn interval(i: Interval) {
+fn interval<W: Write>(writer: &mut W, i: Interval) -> io::Result<()> {
     let Interval::Every(l) = i else {
-        lines::word(b" -");
-        return;
+        return lines::word(writer, b" -");
     };
-    say::number(l.0 as u64);
+    say::number(writer, l.0 as u64)
 }
 
-fn ids(list: Ids) {
-    lines::word(b" [");
-    say::ids(list);
-    lines::word(b"]");
+fn ids<W: Write>(writer: &mut W, list: Ids) -> io::Result<()> {
+    lines::word(writer, b" [")?;
+    say::ids(writer, list)?;
+    lines::word(writer, b"]")
 }
 
-fn redirect(v: &[u8]) {
+fn redirect<W: Write>(writer: &mut W, v: &[u8]) -> io::Result<()> {
     let m = decode::read_redirect(v);
-    readable(m.reading.readable);
+    readable(writer, m.reading.readable)?;
     let url = m.url;
-    bytes(v, url);
+    bytes(writer, v, url)?;
     let immediate = m.immediate;
-    flag(immediate);
+    flag(writer, immediate)
 }
 
-fn session(v: &[u8]) {
+fn session<W: Write>(writer: &mut W, v: &[u8]) -> io::Result<()> {
     let m = decode::read_session(v);
-    readable(m.reading.readable);
+    readable(writer, m.reading.readable)?;
     let id = m.id;
-    bytes(v, id);
+    bytes(writer, v, id)
 }
 
-fn report(v: &[u8]) {
+fn report<W: Write>(writer: &mut W, v: &[u8]) -> io::Result<()> {
     let m = decode_report::read_report(v);
-    readable(m.reading.readable);
+    readable(writer, m.reading.readable)?;
     let every = m.interval;
-    interval(every);
+    interval(writer, every)?;
     let list = m.ids;
-    ids(list);
+    ids(writer, list)
 }
 
-fn group(v: &[u8]) {
+fn group<W: Write>(writer: &mut W, v: &[u8]) -> io::Result<()> {
     let m = decode::read_group(v);
-    readable(m.reading.readable);
+    readable(writer, m.reading.readable)?;
     let kind = m.kind;
-    given(kind);
+    given(writer, kind)?;
     let id = m.id;
-    given(id);
+    given(writer, id)
 }
 
-fn transfer(v: &[u8]) {
+fn transfer<W: Write>(writer: &mut W, v: &[u8]) -> io::Result<()> {
     let m = decode_image::read_transfer(v);
-    readable(m.reading.readable);
+    readable(writer, m.reading.readable)?;
     let hw_id = m.hw_id;
-    bytes(v, hw_id);
+    bytes(writer, v, hw_id)?;
     let vendor = m.vendor_hw_id;
-    bytes(v, vendor);
+    bytes(writer, v, vendor)?;
     let file_hash = m.hash;
-    bytes(v, file_hash);
+    bytes(writer, v, file_hash)?;
     let name = m.name;
-    bytes(v, name);
+    bytes(writer, v, name)?;
     let version = m.version;
-    bytes(v, version);
+    bytes(writer, v, version)?;
     let size = m.size;
-    given(size);
+    given(writer, size)?;
     let block_size = m.block_size;
-    given(block_size);
+    given(writer, block_size)
 }
 
-fn block(v: &[u8]) {
+fn block<W: Write>(writer: &mut W, v: &[u8]) -> io::Result<()> {
     let m = decode_image::read_block(v);
-    readable(m.reading.readable);
+    readable(writer, m.reading.readable)?;
     let file_hash = m.hash;
-    bytes(v, file_hash);
+    bytes(writer, v, file_hash)?;
     let n = m.number;
-    given(n);
+    given(writer, n)?;
     let data = m.data;
-    bytes(v, data);
+    bytes(writer, v, data)
 }
 
-fn load(v: &[u8]) {
+fn load<W: Write>(writer: &mut W, v: &[u8]) -> io::Result<()> {
     let m = decode_image::read_load(v);
-    readable(m.reading.readable);
+    readable(writer, m.reading.readable)?;
     let file_hash = m.hash;
-    bytes(v, file_hash);
+    bytes(writer, v, file_hash)?;
     let time = m.time;
-    moment(time);
+    moment(writer, time)
 }
 
-fn hash(v: &[u8]) {
+fn hash<W: Write>(writer: &mut W, v: &[u8]) -> io::Result<()> {
     let m = decode_image::read_hash(v);
-    readable(m.reading.readable);
+    readable(writer, m.reading.readable)?;
     let file_hash = m.hash;
-    bytes(v, file_hash);
+    bytes(writer, v, file_hash)
 }
 
-fn validity(v: &[u8]) {
+fn validity<W: Write>(writer: &mut W, v: &[u8]) -> io::Result<()> {
     let m = decode::read_validity(v);
-    readable(m.reading.readable);
+    readable(writer, m.reading.readable)?;
     let from = m.not_before;
-    moment(from);
+    moment(writer, from)?;
     let to = m.not_after;
-    moment(to);
+    moment(writer, to)
 }
 
-fn signature(v: &[u8]) {
-    readable(decode::read_signature(v).readable);
+fn signature<W: Write>(writer: &mut W, v: &[u8]) -> io::Result<()> {
+    readable(writer, decode::read_signature(v).readable)
 }
 
 // What the reader of a record's type says of its value.
-fn read(kind: u64, v: &[u8]) {
+fn read<W: Write>(writer: &mut W, kind: u64, v: &[u8]) -> io::Result<()> {
     match kind {
-        6 => redirect(v),
-        7 => session(v),
-        13 => report(v),
-        55 | 57 => group(v),
-        65 => transfer(v),
-        67 => block(v),
-        68 => load(v),
-        69 | 70 => hash(v),
-        76 => validity(v),
-        77 => signature(v),
-        _ => lines::word(b"unknown"),
+        6 => redirect(writer, v),
+        7 => session(writer, v),
+        13 => report(writer, v),
+        55 | 57 => group(writer, v),
+        65 => transfer(writer, v),
+        67 => block(writer, v),
+        68 => load(writer, v),
+        69 | 70 => hash(writer, v),
+        76 => validity(writer, v),
+        77 => signature(writer, v),
+        _ => lines::word(writer, b"unknown"),
     }
 }
 
-pub fn print(kind: u64, v: &[u8]) {
-    lines::number(kind);
-    lines::word(b" ");
-    read(kind, v);
-    lines::word(b"\n");
+pub fn print<W: Write>(writer: &mut W, kind: u64, v: &[u8]) -> io::Result<()> {
+    lines::number(writer, kind)?;
+    lines::word(writer, b" ")?;
+    read(writer, kind, v)?;
+    lines::word(writer, b"\n")
 }

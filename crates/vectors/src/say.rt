@@ -1,35 +1,38 @@
 // The parts of a line that several kinds of vectors have.
 use decimal::Ids;
+use std::io;
+use std::io::Write;
 
 // A blank and a number.
-pub fn number(n: u64) {
-    lines::word(b" ");
-    lines::number(n);
+pub fn number<W: Write>(writer: &mut W, n: u64) -> io::Result<()> {
+    lines::word(writer, b" ")?;
+    lines::number(writer, n)
 }
 
 // A blank and bytes in hex.
-pub fn bytes(s: &[u8]) {
-    lines::word(b" ");
-    lines::hex(s);
+pub fn bytes<W: Write>(writer: &mut W, s: &[u8]) -> io::Result<()> {
+    lines::word(writer, b" ")?;
+    lines::hex(writer, s)
 }
 
 // A vector's type and length, in a line of their own.
-pub fn record(kind: u64, v: &[u8]) {
-    lines::word(b"record");
-    number(kind);
-    number(v.len() as u64);
-    lines::word(b"\n");
+pub fn record<W: Write>(writer: &mut W, kind: u64, v: &[u8]) -> io::Result<()> {
+    lines::word(writer, b"record")?;
+    number(writer, kind)?;
+    number(writer, v.len() as u64)?;
+    lines::word(writer, b"\n")
 }
 
-pub fn ids(ids: Ids) {
+pub fn ids<W: Write>(writer: &mut W, ids: Ids) -> io::Result<()> {
     let list = ids.list;
     let n = ids.count;
     let mut i = 0;
     while i < n {
         if 32 <= i {
-            return;
+            return Ok(());
         }
-        number(list[i] as u64);
+        number(writer, list[i] as u64)?;
         i += 1;
     }
+    Ok(())
 }

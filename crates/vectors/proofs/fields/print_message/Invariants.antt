@@ -1,0 +1,6 @@
+-- A field ends behind its start.
+use Rattle.std.proofs.Common.{◌-◌, length}
+use Rattle.vectors.proofs.fields.print_message.Given as goal
+
+abbrev pub decreases-loop-at : goal.decreases-loop-at
+decreases-loop-at g l = length l.s - l.at

@@ -1,0 +1,7 @@
+-- A record ends behind its start.
+use Rattle.std.proofs.Common.{arith, sym}
+use Rattle.tlv.proofs.Laws.{record-inside}
+use Rattle.vectors.proofs.print_vectors.Goals as goal
+
+pub loop-at-smaller : goal.loop-at-smaller
+loop-at-smaller g c = omega (arith, record-inside c.args.s.now c.loop-at.at c.in-Record.r (sym c.in-Record.ensures))
