@@ -1,79 +1,72 @@
 -- `agent::datagram` meets its contract: by what the datagram asks.
-use mathlib.Core.Path.{sym, ◌∙◌}
+use Rattle.std.proofs.Common.{sym, ◌∙◌, ℕ, List}
+use Rattle.schedule.specs.declared.Point.{Point}
 use Rattle.calls.specs.Datagram.{Call}
 use Rattle.dispatch.proofs.Laws.{call-nothing, call-reset, call-acknowledged, call-error, call-index, call-record, call-records, call-later, call-shut, call-posted, call-acted, call-late}
 use Rattle.std.proofs.Common.{rules}
 use Rattle.agent.proofs.datagram.Goals as goal
 
 -- the call's own inputs
-abbrev inputs : goal.Start → Call
-inputs s =
-    record {
-      out = s.args.out.now;
-      bytes = s.args.bytes.now;
-      store = s.args.store.now;
-      time = s.args.time;
-      verdict = s.args.verdict;
-      random = s.args.random;
-      answers = s.args.answers.now;
-    }
+abbrev inputs : List ℕ → List ℕ → List ℕ → Point → ℕ → ℕ → List ℕ → Call
+inputs out bytes store time verdict random answers =
+    record { out = out; bytes = bytes; store = store; time = time; verdict = verdict; random = random; answers = answers }
 
 pub returns-then-is_shut_out : goal.returns-then-is_shut_out
 returns-then-is_shut_out c =
-    let s = c in
-    call-shut s.args.state s.args.image.now (inputs s) c.receive.ensures c.in-Post.is c.rest-payload.ensures (sym c.is_shut_out.ensures ∙ c.if-is_shut_out.true) c.silent-then-is_shut_out.ensures
+    let a = c.args in
+    call-shut a.state a.image.now (inputs a.out.now a.bytes.now a.store.now a.time a.verdict a.random a.answers.now) c.receive.ensures c.in-Post.is c.rest-payload.ensures (sym c.is_shut_out.ensures ∙ c.if-is_shut_out.true) c.silent-then-is_shut_out.ensures
 
 pub returns-then-delayed : goal.returns-then-delayed
 returns-then-delayed c =
-    let s = c in
-    call-late s.args.state s.args.image.now (inputs s) c.receive.ensures c.in-Post.is c.rest-payload.ensures c.begin-begun.ensures c.if-delayed.true (sym c.is_shut_out.ensures ∙ c.if-is_shut_out.false) c.act.ensures
+    let a = c.args in
+    call-late a.state a.image.now (inputs a.out.now a.bytes.now a.store.now a.time a.verdict a.random a.answers.now) c.receive.ensures c.in-Post.is c.rest-payload.ensures c.begin-begun.ensures c.if-delayed.true (sym c.is_shut_out.ensures ∙ c.if-is_shut_out.false) c.act.ensures
 
 pub returns-then-at-payload : goal.returns-then-at-payload
 returns-then-at-payload c =
-    let s = c in
-    call-acted s.args.state s.args.image.now (inputs s) c.receive.ensures c.in-Post.is c.rest-payload.ensures c.begin-begun.ensures c.if-delayed.false c.if-at-payload.true c.act-then-at-payload.ensures
+    let a = c.args in
+    call-acted a.state a.image.now (inputs a.out.now a.bytes.now a.store.now a.time a.verdict a.random a.answers.now) c.receive.ensures c.in-Post.is c.rest-payload.ensures c.begin-begun.ensures c.if-delayed.false c.if-at-payload.true c.act-then-at-payload.ensures
 
 pub returns-in-Post : goal.returns-in-Post
 returns-in-Post c =
-    let s = c in
-    call-posted s.args.state s.args.image.now (inputs s) c.receive.ensures c.in-Post.is c.rest-payload.ensures c.begin-begun.ensures c.if-delayed.false c.if-at-payload.false c.answer-in-Post.ensures
+    let a = c.args in
+    call-posted a.state a.image.now (inputs a.out.now a.bytes.now a.store.now a.time a.verdict a.random a.answers.now) c.receive.ensures c.in-Post.is c.rest-payload.ensures c.begin-begun.ensures c.if-delayed.false c.if-at-payload.false c.answer-in-Post.ensures
 
 pub returns-in-Nothing : goal.returns-in-Nothing
 returns-in-Nothing c =
-    let s = c in
-    call-nothing s.args.state s.args.image.now (inputs s) c.receive.ensures c.in-Nothing.is c.silent.ensures
+    let a = c.args in
+    call-nothing a.state a.image.now (inputs a.out.now a.bytes.now a.store.now a.time a.verdict a.random a.answers.now) c.receive.ensures c.in-Nothing.is c.silent.ensures
 
 pub returns-in-Reset : goal.returns-in-Reset
 returns-in-Reset c =
-    let s = c in
-    call-reset s.args.state s.args.image.now (inputs s) c.receive.ensures c.in-Reset.is c.reset.ensures
+    let a = c.args in
+    call-reset a.state a.image.now (inputs a.out.now a.bytes.now a.store.now a.time a.verdict a.random a.answers.now) c.receive.ensures c.in-Reset.is c.reset.ensures
 
 pub returns-in-Acknowledgement : goal.returns-in-Acknowledgement
 returns-in-Acknowledgement c =
-    let s = c in
-    call-acknowledged s.args.state s.args.image.now (inputs s) c.receive.ensures c.in-Acknowledgement.is c.acknowledge.ensures
+    let a = c.args in
+    call-acknowledged a.state a.image.now (inputs a.out.now a.bytes.now a.store.now a.time a.verdict a.random a.answers.now) c.receive.ensures c.in-Acknowledgement.is c.acknowledge.ensures
 
 pub returns-in-Error : goal.returns-in-Error
 returns-in-Error c =
-    let s = c in
-    call-error s.args.state s.args.image.now (inputs s) c.receive.ensures c.in-Error.is c.answer.ensures
+    let a = c.args in
+    call-error a.state a.image.now (inputs a.out.now a.bytes.now a.store.now a.time a.verdict a.random a.answers.now) c.receive.ensures c.in-Error.is c.answer.ensures
 
 pub returns-in-Index : goal.returns-in-Index
 returns-in-Index c =
-    let s = c in
-    call-index s.args.state s.args.image.now (inputs s) c.receive.ensures c.in-Index.is c.show.ensures
+    let a = c.args in
+    call-index a.state a.image.now (inputs a.out.now a.bytes.now a.store.now a.time a.verdict a.random a.answers.now) c.receive.ensures c.in-Index.is c.show.ensures
 
 pub returns-in-Record : goal.returns-in-Record
 returns-in-Record c =
-    let s = c in
-    call-record s.args.state s.args.image.now (inputs s) c.receive.ensures c.in-Record.is c.show-in-Record.ensures
+    let a = c.args in
+    call-record a.state a.image.now (inputs a.out.now a.bytes.now a.store.now a.time a.verdict a.random a.answers.now) c.receive.ensures c.in-Record.is c.show-in-Record.ensures
 
 pub returns-in-Records : goal.returns-in-Records
 returns-in-Records c =
-    let s = c in
-    call-records s.args.state s.args.image.now (inputs s) c.receive.ensures c.in-Records.is c.show-in-Records.ensures
+    let a = c.args in
+    call-records a.state a.image.now (inputs a.out.now a.bytes.now a.store.now a.time a.verdict a.random a.answers.now) c.receive.ensures c.in-Records.is c.show-in-Records.ensures
 
 pub returns-in-Later : goal.returns-in-Later
 returns-in-Later c =
-    let s = c in
-    call-later s.args.state s.args.image.now (inputs s) c.receive.ensures c.in-Later.is c.show-in-Later.ensures
+    let a = c.args in
+    call-later a.state a.image.now (inputs a.out.now a.bytes.now a.store.now a.time a.verdict a.random a.answers.now) c.receive.ensures c.in-Later.is c.show-in-Later.ensures

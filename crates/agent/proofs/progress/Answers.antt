@@ -6,7 +6,7 @@ use Rattle.std.proofs.Common.{rules}
 use Rattle.agent.proofs.progress.Goals as goal
 
 pub returns-then-not-state : goal.returns-then-not-state
-returns-then-not-state c = sym (progress-closed _ (c.if-not-state.true))
+returns-then-not-state c = sym (progress-closed _ (not-true _ c.if-not-state.true))
 
 pub returns : goal.returns
-returns c = c.progress_of.ensures ∙ sym (progress-open _ (c.if-not-state.false))
+returns c = c.progress_of.ensures ∙ sym (progress-open _ (not-false _ c.if-not-state.false))
