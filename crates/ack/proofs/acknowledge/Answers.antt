@@ -1,8 +1,6 @@
 -- `ack::acknowledge` meets its contract: not awaited, padded where that is refused, not takable, or taken.
 use mathlib.Core.Path.{sym, ◌∙◌}
-use borrow.Author.Tests.{not-true, not-false}
 use Rattle.ack.proofs.Laws.{ack-unawaited, ack-padded, ack-untaken, ack-taken}
-use Rattle.std.proofs.Common.{rules}
 use Rattle.ack.proofs.acknowledge.Goals as goal
 
 pub returns-then-not-is_awaited : goal.returns-then-not-is_awaited

@@ -2,7 +2,6 @@
 use mathlib.Core.Path.{sym, ◌∙◌}
 use borrow.Author.Tests.{not-true, not-false}
 use Rattle.ack.proofs.Laws.{takable-unreadable, takable-unsigned, takable-expired, takable-placed}
-use Rattle.std.proofs.Common.{rules}
 use Rattle.ack.proofs.is_takable.Goals as goal
 
 pub returns-then-not-learnt : goal.returns-then-not-learnt

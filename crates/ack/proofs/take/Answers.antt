@@ -2,7 +2,6 @@
 use mathlib.Core.Path.{sym, ◌∙◌}
 use borrow.Author.Tests.{not-true, not-false}
 use Rattle.ack.proofs.Laws.{taken-accepted, taken-redirected}
-use Rattle.std.proofs.Common.{rules}
 use Rattle.ack.proofs.take.Goals as goal
 
 pub returns-then-not-learnt : goal.returns-then-not-learnt

@@ -1,6 +1,5 @@
 -- `agent::boot` meets its contract: part by part.
 use Rattle.calls.specs.Boot.{boot_of}
-use Rattle.std.proofs.Common.{rules}
 use Rattle.agent.proofs.boot.Goals as goal
 
 pub returns : goal.returns

@@ -3,7 +3,6 @@ use Rattle.std.proofs.Common.{sym, ◌∙◌, ℕ, List}
 use Rattle.schedule.specs.declared.Point.{Point}
 use Rattle.calls.specs.Datagram.{Call}
 use Rattle.dispatch.proofs.Laws.{call-nothing, call-reset, call-acknowledged, call-error, call-index, call-record, call-records, call-later, call-shut, call-posted, call-acted, call-late}
-use Rattle.std.proofs.Common.{rules}
 use Rattle.agent.proofs.datagram.Goals as goal
 
 -- the call's own inputs

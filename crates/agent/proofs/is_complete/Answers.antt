@@ -2,7 +2,6 @@
 use mathlib.Core.Path.{ap, ◌∙◌}
 use Rattle.transfer.specs.declared.Progress.{Progress}
 use Rattle.agent.proofs.Laws.{progress-complete}
-use Rattle.std.proofs.Common.{rules}
 use Rattle.agent.proofs.is_complete.Goals as goal
 
 pub returns : goal.returns

@@ -2,7 +2,6 @@
 use mathlib.Core.Path.{sym, ◌∙◌}
 use borrow.Author.Tests.{not-true, not-false}
 use Rattle.agent.proofs.Laws.{progress-closed, progress-open}
-use Rattle.std.proofs.Common.{rules}
 use Rattle.agent.proofs.progress.Goals as goal
 
 pub returns-then-not-state : goal.returns-then-not-state

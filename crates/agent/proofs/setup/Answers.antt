@@ -1,5 +1,4 @@
 -- `agent::setup` meets its contract: it is the state's.
-use Rattle.std.proofs.Common.{rules}
 use Rattle.agent.proofs.setup.Goals as goal
 
 pub returns : goal.returns

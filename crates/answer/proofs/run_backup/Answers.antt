@@ -4,7 +4,6 @@ use Rattle.loading.specs.Load.{backup_taken, backup_answered}
 use Rattle.firmware.specs.Place.{echoed}
 use Rattle.decode_image.specs.declared.ImageHash.{ImageHash}
 use Rattle.answer.proofs.Laws.{responded}
-use Rattle.std.proofs.Common.{rules}
 use Rattle.answer.proofs.run_backup.Goals as goal
 
 pub returns : goal.returns

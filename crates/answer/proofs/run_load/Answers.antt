@@ -6,7 +6,6 @@ use Rattle.decode_image.specs.declared.Load.{Load}
 use Rattle.firmware.specs.declared.Answered.{Answered}
 use Rattle.answer.specs.Answer.{load_time}
 use Rattle.answer.proofs.Laws.{responded}
-use Rattle.std.proofs.Common.{rules}
 use Rattle.answer.proofs.run_load.Goals as goal
 
 pub returns : goal.returns

@@ -4,7 +4,6 @@ use Rattle.opening.specs.Open.{transfer_taken, transfer_answered}
 use Rattle.firmware.specs.Place.{echoed}
 use Rattle.decode_image.specs.declared.Transfer.{Transfer}
 use Rattle.answer.proofs.Laws.{responded}
-use Rattle.std.proofs.Common.{rules}
 use Rattle.answer.proofs.run_transfer.Goals as goal
 
 pub returns : goal.returns

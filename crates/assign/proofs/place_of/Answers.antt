@@ -1,10 +1,9 @@
 -- What is left to show, goal by goal.
-use Prim.Native.Nat.{ℕ, ◌-◌, ◌≤◌, ◌<◌}
+use Prim.Native.Nat.{◌-◌, ◌<◌}
 use mathlib.Core.Path.{◌≡◌, sym, ◌∙◌}
 use native.Mathlib.Omega.{arith}
-use lib.ListN.{length, length-map, length-take}
-use Rattle.assign.specs.Assign.{place_of}
-use Rattle.assign.proofs.Laws.{place_from, place-start, place_end, place_here, place-next}
+use lib.ListN.{length, length-take}
+use Rattle.assign.proofs.Laws.{place-start, place_end, place_here, place-next}
 use Rattle.assign.proofs.place_of.Goals as goal
 use Rattle.std.proofs.Common.{rules}
 

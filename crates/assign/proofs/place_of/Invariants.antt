@@ -1,10 +1,8 @@
 -- `assign::place_of` meets its contract: the type was not found yet, so its place is among those left.
-use Prim.Native.Nat.{ℕ, ◌-◌, ◌≤◌, ◌<◌}
-use mathlib.Core.Path.{◌≡◌, sym, ◌∙◌}
-use native.Mathlib.Omega.{arith}
-use lib.ListN.{length, length-map, length-take}
+use Prim.Native.Nat.{◌-◌, ◌≤◌}
+use mathlib.Core.Path.{◌≡◌}
 use Rattle.assign.specs.Assign.{place_of}
-use Rattle.assign.proofs.Laws.{place_from, place-start, place_end, place_here, place-next}
+use Rattle.assign.proofs.Laws.{place_from}
 use Rattle.assign.proofs.place_of.Given as goal
 
 abbrev pub invariant-loop-i : goal.invariant-loop-i

@@ -1,6 +1,5 @@
 -- `assign::regroup` meets its contract: a place for it, or none.
 use Rattle.assign.proofs.Laws.{regrouped-not, regrouped-pair}
-use Rattle.std.proofs.Common.{rules}
 use Rattle.assign.proofs.regroup.Goals as goal
 
 pub returns-then-place-ge8 : goal.returns-then-place-ge8

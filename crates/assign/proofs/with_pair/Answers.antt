@@ -1,6 +1,5 @@
 -- `assign::with_pair` meets its contract: the place is held, or the end.
 use Rattle.assign.proofs.Laws.{pair-replaced, pair-added}
-use Rattle.std.proofs.Common.{rules}
 use Rattle.assign.proofs.with_pair.Goals as goal
 
 pub returns-then-place-groups : goal.returns-then-place-groups

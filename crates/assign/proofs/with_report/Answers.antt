@@ -1,6 +1,5 @@
 -- `assign::with_report` meets its contract: part by part.
 use Rattle.assign.specs.Assign.{with_report}
-use Rattle.std.proofs.Common.{rules}
 use Rattle.assign.proofs.with_report.Goals as goal
 
 pub returns : goal.returns

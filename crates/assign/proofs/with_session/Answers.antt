@@ -2,7 +2,6 @@
 use mathlib.Core.Path.{sym}
 use native.Mathlib.Omega.{arith}
 use Rattle.assign.proofs.Laws.{id-inside, session-none, session-some}
-use Rattle.std.proofs.Common.{rules}
 use Rattle.assign.proofs.with_session.Goals as goal
 
 pub returns-in_default : goal.returns-in_default

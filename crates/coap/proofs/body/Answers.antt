@@ -1,7 +1,6 @@
 -- `coap::body` meets its contract: a step of the definition at each answer.
 use mathlib.Core.Path.{sym, ◌∙◌}
 use Rattle.coap.proofs.Frames.{body-empty, body-long, body-outside, body-broken, body-whole}
-use Rattle.std.proofs.Common.{rules}
 use Rattle.coap.proofs.body.Goals as goal
 
 pub returns-then-code-eq0 : goal.returns-then-code-eq0

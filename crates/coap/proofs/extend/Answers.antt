@@ -2,7 +2,6 @@
 use Prim.Native.Nat.{◌+◌}
 use mathlib.Core.Path.{sym, ◌∙◌}
 use native.Mathlib.Omega.{arith}
-use Rattle.std.proofs.Common.{rules}
 use Rattle.buffer.proofs.Stretches.{room}
 use Rattle.coap.proofs.Laws.{extended-plain, extended-one, extended-one-cut, extended-two, extended-two-cut, extended-reserved}
 use Rattle.coap.proofs.extend.Goals as goal

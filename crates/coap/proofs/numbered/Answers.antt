@@ -2,7 +2,6 @@
 use mathlib.Core.Path.{sym, ◌∙◌}
 use native.Mathlib.Omega.{arith}
 use Rattle.coap.proofs.Laws.{from_cut, from-over, from-no-length, from-outside, from-whole}
-use Rattle.std.proofs.Common.{rules}
 use Rattle.coap.proofs.numbered.Goals as goal
 
 pub returns-in_default : goal.returns-in_default

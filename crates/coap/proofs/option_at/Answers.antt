@@ -1,7 +1,6 @@
 -- `coap::option_at` meets its contract: a step of the definition at each answer.
 use mathlib.Core.Path.{sym, ◌∙◌}
 use Rattle.coap.proofs.Laws.{at-end, at-last-marker, at-marker, at_option}
-use Rattle.std.proofs.Common.{rules}
 use Rattle.coap.proofs.option_at.Goals as goal
 
 pub returns-then-s-at : goal.returns-then-s-at

@@ -1,10 +1,7 @@
 -- What is left to show, goal by goal.
-use Prim.Native.Nat.{◌-◌}
-use mathlib.Core.Path.{◌≡◌, refl, sym, ap, ◌∙◌}
+use mathlib.Core.Path.{refl, sym, ap, ◌∙◌}
 use native.Mathlib.Omega.{arith}
-use lib.ListN.{length}
-use Rattle.std.proofs.Common.{rules}
-use Rattle.coap.specs.Option.{Options, options, payload_from}
+use Rattle.coap.specs.Option.{Options, payload_from}
 use Rattle.coap.proofs.Laws.{option_inside, options-option, options-payload, options-malformed}
 use Rattle.coap.proofs.payload_from.Goals as goal
 

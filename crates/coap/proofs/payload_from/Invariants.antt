@@ -1,11 +1,8 @@
 -- `coap::payload_from` meets its contract: the options left end where all of them do.
 use Prim.Native.Nat.{◌-◌}
-use mathlib.Core.Path.{◌≡◌, refl, sym, ap, ◌∙◌}
-use native.Mathlib.Omega.{arith}
+use mathlib.Core.Path.{◌≡◌}
 use lib.ListN.{length}
-use Rattle.std.proofs.Common.{rules}
-use Rattle.coap.specs.Option.{Options, options, payload_from}
-use Rattle.coap.proofs.Laws.{option_inside, options-option, options-payload, options-malformed}
+use Rattle.coap.specs.Option.{options, payload_from}
 use Rattle.coap.proofs.payload_from.Given as goal
 
 abbrev pub invariant-loop-o : goal.invariant-loop-o

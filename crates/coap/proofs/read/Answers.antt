@@ -2,7 +2,6 @@
 use mathlib.Core.Path.{sym, ◌∙◌}
 use native.Mathlib.Omega.{arith}
 use Rattle.coap.proofs.Frames.{frame-short, frame-foreign, frame-body}
-use Rattle.std.proofs.Common.{rules}
 use Rattle.coap.proofs.read.Goals as goal
 
 pub returns-then-s-lt4 : goal.returns-then-s-lt4

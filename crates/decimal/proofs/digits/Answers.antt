@@ -1,8 +1,8 @@
 -- What is left to show, goal by goal.
-use Prim.Native.Nat.{◌+◌, ◌-◌, ◌^◌, ◌<◌}
-use mathlib.Core.Path.{◌≡◌, refl, sym, ap, ◌∙◌}
+use Prim.Native.Nat.{◌+◌}
+use mathlib.Core.Path.{refl, sym, ap, ◌∙◌}
 use native.Mathlib.Omega.{arith}
-use lib.ListN.{length, drop, drop_of_length-le}
+use lib.ListN.{drop, drop_of_length-le}
 use Rattle.decimal.specs.Decimal.{digits_of}
 use Rattle.decimal.proofs.Laws.{behind, behind-end, behind-low, behind-high, behind-digit, behind-large}
 use Rattle.decimal.proofs.digits.Goals as goal

@@ -1,10 +1,9 @@
 -- `decimal::digits` meets its contract: the digits read so far and the text behind them say what the whole text says.
-use Prim.Native.Nat.{◌+◌, ◌-◌, ◌^◌, ◌<◌}
-use mathlib.Core.Path.{◌≡◌, refl, sym, ap, ◌∙◌}
-use native.Mathlib.Omega.{arith}
-use lib.ListN.{length, drop, drop_of_length-le}
+use Prim.Native.Nat.{◌-◌, ◌^◌, ◌<◌}
+use mathlib.Core.Path.{◌≡◌}
+use lib.ListN.{length, drop}
 use Rattle.decimal.specs.Decimal.{digits_of}
-use Rattle.decimal.proofs.Laws.{behind, behind-end, behind-low, behind-high, behind-digit, behind-large}
+use Rattle.decimal.proofs.Laws.{behind}
 use Rattle.decimal.proofs.digits.Given as goal
 
 abbrev pub invariant-loop-i : goal.invariant-loop-i

@@ -1,11 +1,11 @@
 -- What is left to show, goal by goal.
-use Prim.Native.Nat.{ℕ, ◌+◌, ◌/◌, ◌%◌, ◌<◌}
-use mathlib.Core.Path.{◌≡◌, refl, ap}
+use Prim.Native.Nat.{◌+◌, ◌/◌, ◌%◌}
+use mathlib.Core.Path.{refl, ap}
 use mathlib.Core.List.{[], ◌∷◌}
 use native.Mathlib.Omega.{arith}
 use lib.ListN.{length}
-use Rattle.decimal.specs.Decimal.{digits_before, decimal}
-use Rattle.decimal.proofs.Laws.{bound, digits-end, digits_more, digits-length}
+use Rattle.decimal.specs.Decimal.{decimal}
+use Rattle.decimal.proofs.Laws.{digits-end, digits_more, digits-length}
 use Rattle.decimal.proofs.len.Goals as goal
 
 pub loop-rest-init : goal.loop-rest-init

@@ -1,6 +1,5 @@
 -- `decimal::push` meets its contract: the test says whether there is a place.
 use mathlib.Core.Path.{sym}
-use Rattle.std.proofs.Common.{rules}
 use Rattle.decimal.proofs.Laws.{push-full, push-more}
 use Rattle.decimal.proofs.push.Goals as goal
 

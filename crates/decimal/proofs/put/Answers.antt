@@ -4,7 +4,6 @@ use Prim.Native.Nat.{ℕ, ◌+◌}
 use native.Mathlib.Omega.{arith}
 use Rattle.buffer.proofs.Puts.{put_full}
 use Rattle.buffer.proofs.Stretches.{room, tested}
-use Rattle.std.proofs.Common.{rules}
 use Rattle.decimal.proofs.put.Goals as goal
 
 pub overflow_add-at : goal.overflow_add-at

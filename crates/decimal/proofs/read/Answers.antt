@@ -1,6 +1,5 @@
 -- `decimal::read` meets its contract: the length and the first byte say which case of `id_of` holds.
 use mathlib.Core.Path.{sym, ◌∙◌}
-use native.Mathlib.Omega.{arith}
 use Rattle.decimal.proofs.Laws.{id-empty, id-zero, id-padded, id-digits}
 use Rattle.decimal.proofs.read.Goals as goal
 

@@ -1,14 +1,14 @@
 -- What is left to show, goal by goal.
-use Prim.Native.Nat.{ℕ, ◌+◌, ◌-◌, ◌/◌, ◌%◌, ◌≤◌, ◌<◌}
+use Prim.Native.Nat.{ℕ, ◌+◌, ◌-◌, ◌/◌, ◌%◌}
 use mathlib.Core.Path.{◌≡◌, refl, sym, ap, ap₂, ◌∙◌}
-use mathlib.Core.List.{List, [], ◌∷◌}
+use mathlib.Core.List.{[], ◌∷◌}
 use native.Mathlib.Omega.{arith}
 use lib.ListN.{length, length-set}
 use lib.Seq.{sets, length-sets}
 use Rattle.buffer.proofs.Puts.{put-fits}
 use Rattle.buffer.proofs.Stretches.{room}
-use Rattle.decimal.specs.Decimal.{digits_before, decimal}
-use Rattle.decimal.proofs.Laws.{bound, digits-end, digits_more, digits-some, stored}
+use Rattle.decimal.specs.Decimal.{decimal}
+use Rattle.decimal.proofs.Laws.{digits-end, digits_more, digits-some, stored}
 use Rattle.decimal.proofs.write.Goals as goal
 
 pub overflow_sub-i : goal.overflow_sub-i

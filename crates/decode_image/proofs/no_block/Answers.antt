@@ -1,5 +1,4 @@
 -- `decode_image::no_block` meets its contract: no bytes hold no field.
-use Rattle.std.proofs.Common.{rules}
 use Rattle.buffer.specs.Walk.{walk, walk_for}
 use Rattle.decode_image.specs.Read.{block_of}
 use Rattle.message.specs.Read.{place_of, number_of}

@@ -3,7 +3,6 @@ use mathlib.Core.Path.{refl, ap, ◌∙◌}
 use Rattle.csmp.specs.Values.{moment_of}
 use Rattle.tables.specs.Found.{cells_of, held_cells, none_found, none_held}
 use Rattle.decode_image.proofs.Laws.{load-by}
-use Rattle.std.proofs.Common.{rules}
 use Rattle.decode_image.proofs.read_load.Goals as goal
 
 pub returns : goal.returns

@@ -1,6 +1,5 @@
 -- `due::answer_due` meets its contract: refused, nothing due, or what is due is sent.
 use Rattle.due.proofs.Laws.{due-refused, due-none, due-some}
-use Rattle.std.proofs.Common.{rules}
 use Rattle.due.proofs.answer_due.Goals as goal
 
 pub returns-then-refused-ne0 : goal.returns-then-refused-ne0

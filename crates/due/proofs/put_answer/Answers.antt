@@ -1,6 +1,5 @@
 -- `due::put_answer` meets its contract: by what the answer is.
 use Rattle.due.proofs.Laws.{for-index, for-record, for-records, for-responses}
-use Rattle.std.proofs.Common.{rules}
 use Rattle.due.proofs.put_answer.Goals as goal
 
 pub returns-in-Index : goal.returns-in-Index

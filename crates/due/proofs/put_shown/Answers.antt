@@ -1,6 +1,5 @@
 -- `due::put_shown` meets its contract: the front of the body is what is put.
 use Rattle.due.proofs.Laws.{put-records}
-use Rattle.std.proofs.Common.{rules}
 use Rattle.due.proofs.put_shown.Goals as goal
 
 pub returns : goal.returns

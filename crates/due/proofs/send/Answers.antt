@@ -1,6 +1,5 @@
 -- `due::send` meets its contract: nothing was put, or what was put is sent.
 use Rattle.due.proofs.Laws.{send-none, send-some}
-use Rattle.std.proofs.Common.{rules}
 use Rattle.due.proofs.send.Goals as goal
 
 pub returns-then-len-eq0 : goal.returns-then-len-eq0

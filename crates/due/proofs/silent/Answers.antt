@@ -1,7 +1,6 @@
 -- `due::silent` meets its contract: the URL is empty.
 use mathlib.Core.Path.{refl}
 use Rattle.due.proofs.Laws.{silent-is}
-use Rattle.std.proofs.Common.{rules}
 use Rattle.due.proofs.silent.Goals as goal
 
 pub returns : goal.returns

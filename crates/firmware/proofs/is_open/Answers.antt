@@ -1,6 +1,5 @@
 -- `firmware::is_open` meets its contract: the hash, if one is kept.
 use Rattle.firmware.specs.Answer.{is_open}
-use Rattle.std.proofs.Common.{rules}
 use Rattle.firmware.proofs.is_open.Goals as goal
 
 pub returns : goal.returns

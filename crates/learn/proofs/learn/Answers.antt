@@ -1,15 +1,11 @@
 -- What is left to show, goal by goal.
-use Prim.Native.Nat.{◌-◌, ◌≤◌}
-use mathlib.Core.Path.{◌≡◌, refl, sym, ap, ◌∙◌}
-use mathlib.Core.Bool.{◌||◌}
+use Prim.Native.Nat.{◌-◌}
+use mathlib.Core.Path.{refl, sym, ap, ◌∙◌}
 use native.Mathlib.Omega.{arith}
-use Rattle.std.proofs.Common.{rules}
-use lib.ListN.{length}
 use Rattle.message.specs.declared.Reading.{Reading}
 use Rattle.note.specs.Note.{is_padded}
-use Rattle.tlv.specs.Record.{records, padded_among}
-use Rattle.tlv.proofs.Laws.{record-inside, padded_from, padded-start, padded-end, padded-unreadable, padded-more}
-use Rattle.learn.proofs.Laws.{learnt_at, learnt-start, learnt-end, learnt-unreadable, learnt-next, learnt-padded}
+use Rattle.tlv.proofs.Laws.{record-inside, padded-start, padded-end, padded-unreadable, padded-more}
+use Rattle.learn.proofs.Laws.{learnt-start, learnt-end, learnt-unreadable, learnt-next, learnt-padded}
 use Rattle.learn.proofs.learn.Goals as goal
 
 pub loop-at-init : goal.loop-at-init

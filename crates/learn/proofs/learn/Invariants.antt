@@ -1,15 +1,12 @@
 -- `learn::learn` meets its contract: what was learnt and the records from where the loop stands make all there is to learn, and so with what is padded.
 use Prim.Native.Nat.{◌-◌, ◌≤◌}
-use mathlib.Core.Path.{◌≡◌, refl, sym, ap, ◌∙◌}
+use mathlib.Core.Path.{◌≡◌}
 use mathlib.Core.Bool.{◌||◌}
-use native.Mathlib.Omega.{arith}
-use Rattle.std.proofs.Common.{rules}
 use lib.ListN.{length}
-use Rattle.message.specs.declared.Reading.{Reading}
 use Rattle.note.specs.Note.{is_padded}
 use Rattle.tlv.specs.Record.{records, padded_among}
-use Rattle.tlv.proofs.Laws.{record-inside, padded_from, padded-start, padded-end, padded-unreadable, padded-more}
-use Rattle.learn.proofs.Laws.{learnt_at, learnt-start, learnt-end, learnt-unreadable, learnt-next, learnt-padded}
+use Rattle.tlv.proofs.Laws.{padded_from}
+use Rattle.learn.proofs.Laws.{learnt_at}
 use Rattle.learn.proofs.learn.Given as goal
 
 abbrev pub invariant-loop-at : goal.invariant-loop-at

@@ -1,8 +1,6 @@
 -- `loading::answer_backup` meets its contract: a bad hash is invalid; else the request is judged by it.
 use mathlib.Core.Path.{sym, ◌∙◌}
-use borrow.Author.Tests.{not-true, not-false}
 use Rattle.loading.proofs.Answers.{backup-bad, backup-this}
-use Rattle.std.proofs.Common.{rules}
 use Rattle.loading.proofs.answer_backup.Goals as goal
 
 pub returns-then-not-is_hash : goal.returns-then-not-is_hash

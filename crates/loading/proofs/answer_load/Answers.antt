@@ -1,8 +1,6 @@
 -- `loading::answer_load` meets its contract: a bad hash, no time and time 0 are invalid; else the load is judged.
 use mathlib.Core.Path.{sym, ◌∙◌}
-use borrow.Author.Tests.{not-true, not-false}
 use Rattle.loading.proofs.Answers.{load-bad, load-never, load-zero, load_at}
-use Rattle.std.proofs.Common.{rules}
 use Rattle.loading.proofs.answer_load.Goals as goal
 
 pub returns-then-not-is_hash : goal.returns-then-not-is_hash

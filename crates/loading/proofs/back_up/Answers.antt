@@ -1,7 +1,6 @@
 -- `loading::back_up` meets its contract: a fault of the open image or a pending load answers; else the hash is the backup.
 use mathlib.Core.Path.{sym, ◌∙◌}
 use Rattle.loading.proofs.Answers.{backs-fault, backs-pending, backs-now}
-use Rattle.std.proofs.Common.{rules}
 use Rattle.loading.proofs.back_up.Goals as goal
 
 pub returns-then-fault-ne0 : goal.returns-then-fault-ne0

@@ -1,7 +1,6 @@
 -- `loading::cancel` meets its contract: the pending hash is cleared; else the running one and unknown ones are told apart.
 use mathlib.Core.Path.{sym, ◌∙◌}
 use Rattle.loading.specs.Load.{cancels}
-use Rattle.std.proofs.Common.{rules}
 use Rattle.loading.proofs.cancel.Goals as goal
 
 pub returns-then-is_pending : goal.returns-then-is_pending

@@ -1,6 +1,5 @@
 -- `loading::is_backup` meets its contract: the hash, if one is kept.
 use Rattle.loading.specs.Load.{is_backup}
-use Rattle.std.proofs.Common.{rules}
 use Rattle.loading.proofs.is_backup.Goals as goal
 
 pub returns : goal.returns

@@ -1,6 +1,5 @@
 -- `loading::is_pending` meets its contract: the hash, if one is kept.
 use Rattle.loading.specs.Load.{is_pending}
-use Rattle.std.proofs.Common.{rules}
 use Rattle.loading.proofs.is_pending.Goals as goal
 
 pub returns : goal.returns

@@ -1,7 +1,6 @@
 -- `loading::load` meets its contract: the first fault answers, and without one the hash becomes pending.
 use mathlib.Core.Path.{sym, ◌∙◌}
 use Rattle.loading.proofs.Answers.{loads-source, loads-pending, loads-now}
-use Rattle.std.proofs.Common.{rules}
 use Rattle.loading.proofs.load.Goals as goal
 
 pub returns-then-source-ne0 : goal.returns-then-source-ne0

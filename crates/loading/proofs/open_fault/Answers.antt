@@ -1,8 +1,6 @@
 -- `loading::open_fault` meets its contract: the first test that fails answers.
 use mathlib.Core.Path.{sym, ◌∙◌}
-use borrow.Author.Tests.{not-true, not-false}
 use Rattle.loading.specs.Load.{open_fault}
-use Rattle.std.proofs.Common.{rules}
 use Rattle.loading.proofs.open_fault.Goals as goal
 
 pub returns-then-not-is_open : goal.returns-then-not-is_open

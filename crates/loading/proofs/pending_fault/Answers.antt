@@ -2,7 +2,6 @@
 use mathlib.Core.Path.{sym, ◌∙◌}
 use borrow.Author.Tests.{not-true, not-false}
 use Rattle.loading.specs.Load.{pending_fault}
-use Rattle.std.proofs.Common.{rules}
 use Rattle.loading.proofs.pending_fault.Goals as goal
 
 pub returns-then-not-images : goal.returns-then-not-images

@@ -1,7 +1,6 @@
 -- `loading::source_fault` meets its contract: the backup has no fault, another image that of the open one.
 use mathlib.Core.Path.{sym, ◌∙◌}
 use Rattle.loading.specs.Load.{source_fault}
-use Rattle.std.proofs.Common.{rules}
 use Rattle.loading.proofs.source_fault.Goals as goal
 
 pub returns-then-is_backup : goal.returns-then-is_backup

@@ -1,7 +1,6 @@
 -- `note::assign_group` meets its contract: one of eight, or one too many.
 use mathlib.Core.Path.{sym, ◌∙◌}
 use Rattle.note.proofs.Laws.{ninth-unreadable, eight-assigned}
-use Rattle.std.proofs.Common.{rules}
 use Rattle.note.proofs.assign_group.Goals as goal
 
 pub returns-then-n-ge8 : goal.returns-then-n-ge8

@@ -1,5 +1,4 @@
 -- `note::mark` meets its contract: one part changes.
-use Rattle.std.proofs.Common.{rules}
 use Rattle.note.proofs.mark.Goals as goal
 
 pub returns : goal.returns

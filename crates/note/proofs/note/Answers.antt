@@ -1,7 +1,6 @@
 -- `note::note` meets its contract: by the record's type.
 use mathlib.Core.Path.{sym, ◌∙◌}
 use Rattle.note.proofs.Laws.{reads-6, reads-7, reads-13, reads-55, reads-76, reads-77, readable-as, noted-6, noted-7, noted-13, noted-55, noted-76, noted-77, noted_other}
-use Rattle.std.proofs.Common.{rules}
 use native.Mathlib.Omega.{arith}
 use Rattle.note.proofs.note.Goals as goal
 

@@ -1,6 +1,5 @@
 -- `note::note_group` meets its contract: the group, and whether the value can be read.
 use Rattle.note.proofs.Laws.{group-is}
-use Rattle.std.proofs.Common.{rules}
 use Rattle.note.proofs.note_group.Goals as goal
 
 pub returns : goal.returns

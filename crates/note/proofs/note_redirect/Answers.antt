@@ -1,6 +1,5 @@
 -- `note::note_redirect` meets its contract: part by part.
 use Rattle.note.specs.Note.{redirect_noted}
-use Rattle.std.proofs.Common.{rules}
 use Rattle.note.proofs.note_redirect.Goals as goal
 
 pub returns : goal.returns

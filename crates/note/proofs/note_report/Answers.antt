@@ -1,6 +1,5 @@
 -- `note::note_report` meets its contract: the report, and whether the value can be read.
 use Rattle.note.proofs.Laws.{report-is}
-use Rattle.std.proofs.Common.{rules}
 use Rattle.note.proofs.note_report.Goals as goal
 
 pub returns : goal.returns

@@ -1,6 +1,5 @@
 -- `note::note_session` meets its contract: the session, and whether the value can be read.
 use Rattle.note.proofs.Laws.{session-is}
-use Rattle.std.proofs.Common.{rules}
 use Rattle.note.proofs.note_session.Goals as goal
 
 pub returns : goal.returns

@@ -1,6 +1,5 @@
 -- `note::note_signature` meets its contract: part by part.
 use Rattle.note.specs.Note.{signature_noted}
-use Rattle.std.proofs.Common.{rules}
 use Rattle.note.proofs.note_signature.Goals as goal
 
 pub returns : goal.returns

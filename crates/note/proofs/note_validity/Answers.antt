@@ -1,6 +1,5 @@
 -- `note::note_validity` meets its contract: part by part.
 use Rattle.note.specs.Note.{validity_noted}
-use Rattle.std.proofs.Common.{rules}
 use Rattle.note.proofs.note_validity.Goals as goal
 
 pub returns : goal.returns

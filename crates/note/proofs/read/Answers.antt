@@ -1,7 +1,6 @@
 -- `note::read` meets its contract: by the record's type.
 use mathlib.Core.Path.{sym, ◌∙◌}
 use Rattle.note.proofs.Laws.{reads-6, reads-7, reads-13, reads-55, reads-76, reads-77, reads_other}
-use Rattle.std.proofs.Common.{rules}
 use native.Mathlib.Omega.{arith}
 use Rattle.note.proofs.read.Goals as goal
 

@@ -1,7 +1,6 @@
 -- `note::with_group` meets its contract: both parts given, or ignored.
 use mathlib.Core.Path.{sym, ◌∙◌}
 use Rattle.note.proofs.Laws.{group-kindless, group-idless, group-whole}
-use Rattle.std.proofs.Common.{rules}
 use Rattle.note.proofs.with_group.Goals as goal
 
 pub returns-in_default : goal.returns-in_default

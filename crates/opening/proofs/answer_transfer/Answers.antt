@@ -1,8 +1,6 @@
 -- `opening::answer_transfer` meets its contract: a request that is not whole is invalid, a fault answers, and else the image is opened or kept.
 use mathlib.Core.Path.{sym, ◌∙◌}
-use borrow.Author.Tests.{not-true, not-false}
 use Rattle.opening.proofs.Answers.{transfer-bad, transfer-fault, transfer-open}
-use Rattle.std.proofs.Common.{rules}
 use Rattle.opening.proofs.answer_transfer.Goals as goal
 
 pub returns-then-not-is_whole : goal.returns-then-not-is_whole

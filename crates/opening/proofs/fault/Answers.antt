@@ -1,9 +1,8 @@
 -- `opening::fault` meets its contract: the first fault answers.
 use mathlib.Core.Path.{sym, ap, ◌∙◌}
-use borrow.Author.Tests.{not-true, not-false, eq-eqb, ne_eqb, lt-ltb, le-ltb}
+use borrow.Author.Tests.{eq-eqb, ne_eqb, lt-ltb, le-ltb}
 use lib.Dec.{ltb}
 use Rattle.opening.specs.Open.{fault_of}
-use Rattle.std.proofs.Common.{rules}
 use Rattle.opening.proofs.fault.Goals as goal
 
 pub returns-then-block_size-eq0 : goal.returns-then-block_size-eq0

@@ -1,8 +1,6 @@
 -- `opening::is_ours` meets its contract: both texts are asked in turn.
 use mathlib.Core.Path.{sym, ◌∙◌}
-use borrow.Author.Tests.{not-true, not-false}
 use Rattle.opening.proofs.Answers.{others, ours-by}
-use Rattle.std.proofs.Common.{rules}
 use Rattle.opening.proofs.is_ours.Goals as goal
 
 pub returns-then-not-field_is : goal.returns-then-not-field_is

@@ -1,9 +1,7 @@
 -- `opening::is_whole` meets its contract: the first thing that is missing decides.
 use mathlib.Core.Path.{sym, ◌∙◌}
-use borrow.Author.Tests.{not-true, not-false}
 use Rattle.opening.specs.Open.{is_whole}
 use Rattle.opening.proofs.Answers.{whole-blockless, whole-sizeless, whole-empty, whole-texts}
-use Rattle.std.proofs.Common.{rules}
 use Rattle.opening.proofs.is_whole.Goals as goal
 
 pub returns-then-not-is_hash : goal.returns-then-not-is_hash

@@ -1,7 +1,6 @@
 -- `opening::number_or_zero` meets its contract: the definition at either case.
 use mathlib.Core.Path.{sym, ap}
 use Rattle.opening.specs.Open.{number_or0}
-use Rattle.std.proofs.Common.{rules}
 use Rattle.opening.proofs.number_or_zero.Goals as goal
 
 pub returns-in_default : goal.returns-in_default

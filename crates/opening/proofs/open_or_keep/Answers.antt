@@ -1,8 +1,6 @@
 -- `opening::open_or_keep` meets its contract: another hash is opened; the open one must agree in its sizes.
 use mathlib.Core.Path.{sym, ◌∙◌}
-use borrow.Author.Tests.{not-true, not-false}
 use Rattle.opening.proofs.Answers.{opens-other, opens-size, opens-blocks, opens-same}
-use Rattle.std.proofs.Common.{rules}
 use Rattle.opening.proofs.open_or_keep.Goals as goal
 
 pub returns-then-not-is_open : goal.returns-then-not-is_open

@@ -1,6 +1,5 @@
 -- `opening::opened` meets its contract: each part is what its maker ensures.
 use Rattle.opening.specs.Open.{opened_by}
-use Rattle.std.proofs.Common.{rules}
 use Rattle.opening.proofs.opened.Goals as goal
 
 pub returns : goal.returns

@@ -1,6 +1,5 @@
 -- `opening::replace` meets its contract: only the image and its flag are other.
 use Rattle.opening.specs.Open.{replaced}
-use Rattle.std.proofs.Common.{rules}
 use Rattle.opening.proofs.replace.Goals as goal
 
 pub returns : goal.returns

@@ -1,8 +1,6 @@
 -- `opening::sized_texts` meets its contract: the first text over its size decides.
 use mathlib.Core.Path.{sym, ◌∙◌}
-use borrow.Author.Tests.{not-true, not-false}
 use Rattle.opening.specs.Open.{sized_texts}
-use Rattle.std.proofs.Common.{rules}
 use Rattle.opening.proofs.sized_texts.Goals as goal
 
 pub returns-then-not-at_most : goal.returns-then-not-at_most

@@ -1,5 +1,5 @@
 -- `badly_signed` meets its contract: each test that holds decides.
-use borrow.Author.Tests.{not-true, not-false, eq-eqb, ne_eqb}
+use borrow.Author.Tests.{eq-eqb, ne_eqb}
 use Rattle.post.specs.Judge.{badly_signed}
 use Rattle.post.proofs.badly_signed.Goals as goal
 

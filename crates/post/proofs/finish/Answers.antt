@@ -1,5 +1,4 @@
 -- `finish` meets its contract: the sealed sight beside the ImageBlock and its place.
-use Rattle.std.proofs.Common.{rules}
 use Rattle.post.proofs.finish.Goals as goal
 
 pub returns : goal.returns

@@ -1,7 +1,6 @@
 -- `judge` meets its contract: padding is refused first, where it is.
 use mathlib.Core.Path.{sym, ◌∙◌}
 use Rattle.post.specs.Judge.{judged_as}
-use Rattle.std.proofs.Common.{rules}
 use Rattle.post.proofs.judge.Goals as goal
 
 pub returns-then-both : goal.returns-then-both

@@ -2,7 +2,6 @@
 use mathlib.Core.Path.{sym, ◌∙◌}
 use borrow.Author.Tests.{not-true, not-false, eq-eqb, ne_eqb, le-leb, lt-leb}
 use Rattle.post.specs.Judge.{judged}
-use Rattle.std.proofs.Common.{rules}
 use Rattle.post.proofs.judge_seen.Goals as goal
 
 pub returns-then-not-seen : goal.returns-then-not-seen

@@ -1,17 +1,11 @@
 -- What is left to show, goal by goal.
-use Prim.Native.Nat.{◌-◌, ◌≤◌}
-use mathlib.Core.Path.{◌≡◌, sym, ap, ◌∙◌}
-use mathlib.Core.Bool.{◌||◌}
+use Prim.Native.Nat.{◌-◌}
+use mathlib.Core.Path.{sym, ap, ◌∙◌}
 use native.Mathlib.Omega.{arith}
-use Rattle.std.proofs.Common.{rules}
-use lib.ListN.{length, take, drop}
-use Rattle.decode_image.specs.Read.{block_of}
 use Rattle.message.specs.declared.Reading.{Reading}
-use Rattle.tlv.specs.Record.{records, padded_among}
-use Rattle.tlv.proofs.Laws.{record-inside, padded_from, padded-start, padded-end, padded-unreadable, padded-more}
-use Rattle.post.specs.Judge.{looked_at}
+use Rattle.tlv.proofs.Laws.{record-inside, padded-start, padded-end, padded-unreadable, padded-more}
 use Rattle.post.specs.Value.{is_padded}
-use Rattle.post.proofs.Laws.{noted-count, looked_from, large-seen, start_seen, none_seen, looked-end, looked-unreadable, looked-next, looked-block, block_start, padded-small, padded-large, padded-block, looked-by}
+use Rattle.post.proofs.Laws.{noted-count, large-seen, start_seen, none_seen, looked-end, looked-unreadable, looked-next, looked-block, block_start, padded-small, padded-large, padded-block, looked-by}
 use Rattle.post.proofs.look.Goals as goal
 
 pub returns-then-payload-gt1280 : goal.returns-then-payload-gt1280

@@ -1,6 +1,5 @@
 -- `note` meets its contract: each part is what was seen before and what this record says.
 use native.Mathlib.Omega.{arith}
-use Rattle.std.proofs.Common.{rules}
 use Rattle.post.specs.Judge.{noted}
 use Rattle.post.proofs.note.Goals as goal
 

@@ -1,5 +1,4 @@
 -- `note_block` meets its contract: an ImageBlock is one record more, and says only whether it can be read.
-use Rattle.std.proofs.Common.{rules}
 use Rattle.post.proofs.Laws.{noted-block}
 use Rattle.post.proofs.note_block.Goals as goal
 

@@ -1,6 +1,5 @@
 -- `seal` meets its contract: only whether all can be read changes.
 use Rattle.post.specs.Judge.{sealed}
-use Rattle.std.proofs.Common.{rules}
 use Rattle.post.proofs.seal.Goals as goal
 
 pub returns : goal.returns

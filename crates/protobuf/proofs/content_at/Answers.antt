@@ -1,7 +1,6 @@
 -- `protobuf::content_at` meets its contract: a law of the definition for each wire type.
 use mathlib.Core.Path.{refl}
 use Rattle.protobuf.proofs.FieldLaws.{content-number, content-eight, content-bytes, content-four, content-none}
-use Rattle.std.proofs.Common.{rules}
 use Rattle.protobuf.proofs.content_at.Goals as goal
 
 pub returns-then-wire-eq0 : goal.returns-then-wire-eq0

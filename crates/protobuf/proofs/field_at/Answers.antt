@@ -1,7 +1,6 @@
 -- `protobuf::field_at` meets its contract: a law of the definition for each answer.
 use mathlib.Core.Path.{sym, ◌∙◌}
 use Rattle.protobuf.proofs.FieldLaws.{field-untagged, field-large, field-zero, field-tagged}
-use Rattle.std.proofs.Common.{rules}
 use Rattle.protobuf.proofs.field_at.Goals as goal
 
 pub returns-in_default : goal.returns-in_default

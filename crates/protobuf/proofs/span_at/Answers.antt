@@ -1,7 +1,6 @@
 -- `protobuf::span_at` meets its contract: the definition at what the call answers.
 use mathlib.Core.Path.{sym, ap, ◌∙◌}
 use Rattle.protobuf.specs.Field.{spanned}
-use Rattle.std.proofs.Common.{rules}
 use Rattle.protobuf.proofs.span_at.Goals as goal
 
 pub returns-in_default : goal.returns-in_default

@@ -1,7 +1,6 @@
 -- `registration::is_followed` meets its contract: by the URL's place.
 use mathlib.Core.Path.{sym}
 use Rattle.registration.proofs.Laws.{follows-none, follows-some}
-use Rattle.std.proofs.Common.{rules}
 use Rattle.registration.proofs.is_followed.Goals as goal
 
 pub returns-in_default : goal.returns-in_default

@@ -1,6 +1,5 @@
 -- `registration::is_set` meets its contract: by the flag.
 use Rattle.registration.specs.Redirect.{is_set}
-use Rattle.std.proofs.Common.{rules}
 use Rattle.registration.proofs.is_set.Goals as goal
 
 pub returns-in_default : goal.returns-in_default

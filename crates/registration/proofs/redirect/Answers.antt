@@ -2,7 +2,6 @@
 use mathlib.Core.Path.{sym, ◌∙◌}
 use native.Mathlib.Omega.{arith}
 use Rattle.registration.proofs.Laws.{url-inside, redirect-absent, redirect-empty, redirect-taken}
-use Rattle.std.proofs.Common.{rules}
 use Rattle.registration.proofs.redirect.Goals as goal
 
 pub returns-in_default : goal.returns-in_default

@@ -1,6 +1,5 @@
 -- `rounds::begin_round` meets its contract: call by call.
 use Rattle.rounds.proofs.Laws.{round_is}
-use Rattle.std.proofs.Common.{rules}
 use Rattle.rounds.proofs.begin_round.Goals as goal
 
 pub returns : goal.returns

@@ -1,7 +1,6 @@
 -- `rounds::is_due` meets its contract: a session, an acceptance, an interval.
 use borrow.Author.Tests.{not-true, not-false}
 use Rattle.rounds.proofs.Laws.{due-unbound, due-unaccepted, due-by}
-use Rattle.std.proofs.Common.{rules}
 use Rattle.rounds.proofs.is_due.Goals as goal
 
 pub returns-then-not-assigned : goal.returns-then-not-assigned

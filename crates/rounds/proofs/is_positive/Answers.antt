@@ -1,6 +1,5 @@
 -- `rounds::is_positive` meets its contract: absent, or by its length.
 use Rattle.rounds.proofs.Laws.{positive-none, positive-some}
-use Rattle.std.proofs.Common.{rules}
 use Rattle.rounds.proofs.is_positive.Goals as goal
 
 pub returns-in_default : goal.returns-in_default

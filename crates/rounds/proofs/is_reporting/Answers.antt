@@ -1,6 +1,5 @@
 -- `rounds::is_reporting` meets its contract: by the report.
 use Rattle.rounds.proofs.Laws.{reports-primary, reports-heartbeat}
-use Rattle.std.proofs.Common.{rules}
 use Rattle.rounds.proofs.is_reporting.Goals as goal
 
 pub returns-in-Primary : goal.returns-in-Primary

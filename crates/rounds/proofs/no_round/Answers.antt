@@ -1,5 +1,4 @@
 -- `rounds::no_round` meets its contract: no waits.
-use Rattle.std.proofs.Common.{rules}
 use Rattle.rounds.proofs.no_round.Goals as goal
 
 pub returns : goal.returns

@@ -1,6 +1,5 @@
 -- `rounds::report` meets its contract: refused, nothing to send, or sent.
 use Rattle.rounds.proofs.Laws.{report-refused, report-10, report-sent}
-use Rattle.std.proofs.Common.{rules}
 use Rattle.rounds.proofs.report.Goals as goal
 
 pub returns-then-refused-ne0 : goal.returns-then-refused-ne0

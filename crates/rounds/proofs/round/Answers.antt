@@ -1,6 +1,5 @@
 -- `rounds::round` meets its contract: refused, nothing to send, or sent.
 use Rattle.rounds.proofs.Laws.{round-refused, round-10, round-sent}
-use Rattle.std.proofs.Common.{rules}
 use Rattle.rounds.proofs.round.Goals as goal
 
 pub returns-then-refused-ne0 : goal.returns-then-refused-ne0

@@ -1,5 +1,4 @@
 -- `run::begin` meets its contract: an error changes nothing, and what runs has at most 24 records.
-use Rattle.std.proofs.Common.{rules}
 use Rattle.run.proofs.Laws.{begun-error, begun-run}
 use Rattle.run.proofs.begin.Goals as goal
 

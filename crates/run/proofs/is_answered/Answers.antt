@@ -1,12 +1,9 @@
 -- What is left to show, goal by goal.
 use Prim.Native.Nat.{◌-◌}
-use mathlib.Core.Path.{◌≡◌, sym, ap, ◌∙◌}
+use mathlib.Core.Path.{sym, ap, ◌∙◌}
 use native.Mathlib.Omega.{arith}
-use Rattle.std.proofs.Common.{rules}
-use lib.ListN.{length}
-use Rattle.tlv.specs.Record.{records}
 use Rattle.tlv.proofs.Laws.{record-inside}
-use Rattle.run.specs.Run.{records_at, any_answered}
+use Rattle.run.specs.Run.{any_answered}
 use Rattle.run.proofs.Walk.{at-start, at-end, at-unreadable, answered-end, answered-here, answered-next}
 use Rattle.run.proofs.is_answered.Goals as goal
 

@@ -1,13 +1,9 @@
 -- `run::is_answered` meets its contract: a record from where the loop stands on is answered where one of all is.
 use Prim.Native.Nat.{◌-◌}
-use mathlib.Core.Path.{◌≡◌, sym, ap, ◌∙◌}
-use native.Mathlib.Omega.{arith}
-use Rattle.std.proofs.Common.{rules}
+use mathlib.Core.Path.{◌≡◌}
 use lib.ListN.{length}
 use Rattle.tlv.specs.Record.{records}
-use Rattle.tlv.proofs.Laws.{record-inside}
 use Rattle.run.specs.Run.{records_at, any_answered}
-use Rattle.run.proofs.Walk.{at-start, at-end, at-unreadable, answered-end, answered-here, answered-next}
 use Rattle.run.proofs.is_answered.Given as goal
 
 abbrev pub invariant-loop-at : goal.invariant-loop-at

@@ -1,13 +1,10 @@
 -- What is left to show, goal by goal.
-use Prim.Native.Nat.{◌+◌, ◌*◌, ◌-◌, ◌≤◌}
-use mathlib.Core.Path.{◌≡◌, refl, sym, ◌∙◌}
+use Prim.Native.Nat.{◌-◌}
+use mathlib.Core.Path.{refl, sym, ◌∙◌}
 use native.Mathlib.Omega.{arith}
 use Rattle.std.proofs.Common.{rules}
-use lib.ListN.{length}
 use Rattle.tlv.proofs.Laws.{record-inside}
-use Rattle.step.specs.Step.{world_of}
-use Rattle.run.specs.Run.{records_at}
-use Rattle.run.proofs.Walk.{at-end, at-unreadable, Going, going_start, going_end, going_next}
+use Rattle.run.proofs.Walk.{at-end, at-unreadable, going_start, going_end, going_next}
 use Rattle.run.proofs.run.Goals as goal
 
 pub loop-at-init : goal.loop-at-init

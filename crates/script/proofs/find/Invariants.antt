@@ -1,7 +1,6 @@
 -- `find` is safe and ends: the index rises to the length.
 use Prim.Native.Nat.{◌-◌, ◌≤◌}
 use lib.ListN.{length}
-use Rattle.std.proofs.Common.{rules}
 use Rattle.script.proofs.find.Given as goal
 
 abbrev pub invariant-loop-i : goal.invariant-loop-i

@@ -1,8 +1,6 @@
 -- What is left to show, goal by goal.
-use Prim.Native.Nat.{◌-◌, ◌≤◌}
+use Prim.Native.Nat.{◌-◌}
 use native.Mathlib.Omega.{arith}
-use lib.ListN.{length}
-use Rattle.std.proofs.Common.{rules}
 use Rattle.script.proofs.line_at.Goals as goal
 
 pub returns-then-s-i-eq10 : goal.returns-then-s-i-eq10

@@ -2,7 +2,6 @@
 use mathlib.Core.Path.{sym}
 use native.Mathlib.Omega.{arith}
 use lib.Seq.{length-take-le}
-use Rattle.std.proofs.Common.{rules}
 use Rattle.script.proofs.trimmed.Goals as goal
 
 pub slice_bounds-result-length : goal.slice_bounds-result-length

@@ -1,9 +1,7 @@
 -- What is left to show, goal by goal.
 use Prim.Native.Nat.{◌-◌}
 use native.Mathlib.Omega.{arith}
-use lib.ListN.{length, length-set}
-use Rattle.std.proofs.Common.{rules}
-use mathlib.Core.Path.{◌≡◌}
+use lib.ListN.{length-set}
 use Rattle.script.proofs.unhex.Goals as goal
 
 pub loop-n-smaller : goal.loop-n-smaller

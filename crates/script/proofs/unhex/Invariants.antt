@@ -1,8 +1,6 @@
 -- `unhex` is safe and ends: a digit is below 16, and the place rises to the output's length.
 use Prim.Native.Nat.{◌-◌}
-use native.Mathlib.Omega.{arith}
-use lib.ListN.{length, length-set}
-use Rattle.std.proofs.Common.{rules}
+use lib.ListN.{length}
 use mathlib.Core.Path.{◌≡◌}
 use Rattle.script.proofs.unhex.Given as goal
 

@@ -1,6 +1,5 @@
 -- `step::needs_more` meets its contract: a redirect, or what is answered.
 use mathlib.Core.Path.{sym, ◌∙◌}
-use Rattle.std.proofs.Common.{rules}
 use Rattle.step.proofs.Steps.{more-redirect, more-request}
 use Rattle.step.proofs.needs_more.Goals as goal
 

@@ -3,7 +3,6 @@ use mathlib.Core.Path.{refl}
 use borrow.Author.Tests.{not-true, not-false}
 use Rattle.step.specs.Step.{world_of}
 use Rattle.step.proofs.Steps.{block_closed, block-open}
-use Rattle.std.proofs.Common.{rules}
 use Rattle.step.proofs.run_block.Goals as goal
 
 pub returns-then-not-ran : goal.returns-then-not-ran

@@ -1,6 +1,5 @@
 -- `step::run_record` meets its contract: the type tells what a record does.
 use Rattle.step.proofs.Steps.{step-6, step-65, step-67, step-68, step-69, step-70, step_other}
-use Rattle.std.proofs.Common.{rules}
 use native.Mathlib.Omega.{arith}
 use Rattle.step.proofs.run_record.Goals as goal
 

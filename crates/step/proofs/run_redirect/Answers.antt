@@ -1,5 +1,4 @@
 -- `step::run_redirect` meets its contract: only the registration changes.
-use Rattle.std.proofs.Common.{rules}
 use Rattle.step.proofs.run_redirect.Goals as goal
 
 pub returns : goal.returns

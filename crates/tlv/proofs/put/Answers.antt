@@ -1,5 +1,4 @@
 -- `tlv::put` meets its contract: a record is bytes behind a key and their length.
-use Rattle.std.proofs.Common.{rules}
 use Rattle.tlv.proofs.put.Goals as goal
 
 pub returns : goal.returns

@@ -1,5 +1,5 @@
 -- `transfer::block_count` meets its contract: a division by 0 is 0.
-use Rattle.std.proofs.Common.{sym, refl, rules}
+use Rattle.std.proofs.Common.{sym, refl}
 use Rattle.transfer.specs.Blocks.{blocks}
 use Rattle.transfer.proofs.Lengths.{blocks-none}
 use Rattle.transfer.proofs.block_count.Goals as goal

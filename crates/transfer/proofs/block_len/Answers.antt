@@ -1,5 +1,5 @@
 -- `transfer::block_len` meets its contract: the tests choose the least.
-use Rattle.std.proofs.Common.{sym, arith, rules}
+use Rattle.std.proofs.Common.{sym, arith}
 use Rattle.transfer.proofs.Lengths.{length_none, length-full, length_rest, product_small}
 use Rattle.transfer.proofs.block_len.Goals as goal
 

@@ -1,5 +1,5 @@
 -- `transfer::progress_of` meets its contract: there are no more blocks than bytes, so their number has 32 bits.
-use Rattle.std.proofs.Common.{arith, rules}
+use Rattle.std.proofs.Common.{arith}
 use Rattle.transfer.specs.Bitmap.{complete, progress_of}
 use Rattle.transfer.proofs.Lengths.{blocks-most}
 use Rattle.transfer.proofs.progress_of.Goals as goal

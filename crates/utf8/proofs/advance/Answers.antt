@@ -2,7 +2,6 @@
 use mathlib.Core.Path.{sym, ◌∙◌}
 use Rattle.utf8.specs.Pass.{owed_by}
 use Rattle.utf8.proofs.PassLaws.{after-begun, after-below, after-above, after-in, owed-left}
-use Rattle.std.proofs.Common.{rules}
 use Rattle.utf8.proofs.advance.Goals as goal
 
 pub returns-then-r-eq0 : goal.returns-then-r-eq0

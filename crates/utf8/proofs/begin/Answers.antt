@@ -4,7 +4,6 @@ use native.Mathlib.Omega.{arith}
 use Rattle.utf8.specs.Pass.{owed, owed_by}
 use Rattle.utf8.proofs.FormLaws.{form-behind, none_between, none_above}
 use Rattle.utf8.proofs.PassLaws.{owed-left}
-use Rattle.std.proofs.Common.{rules}
 use Rattle.utf8.proofs.begin.Goals as goal
 
 pub returns-in-224 : goal.returns-in-224

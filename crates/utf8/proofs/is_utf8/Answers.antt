@@ -1,12 +1,6 @@
 -- What is left to show, goal by goal.
-use Prim.Native.Nat.{◌-◌}
-use mathlib.Core.Path.{◌≡◌, sym, ◌∙◌}
-use native.Mathlib.Omega.{arith}
-use lib.ListN.{length, drop}
-use Rattle.utf8.specs.Pass.{owed}
-use Rattle.utf8.specs.Utf8.{utf8_from, is_utf8}
+use mathlib.Core.Path.{sym, ◌∙◌}
 use Rattle.utf8.proofs.PassLaws.{owed-left, owed-malformed, from-left, from-malformed, from-single, from_start, from_end}
-use Rattle.std.proofs.Common.{rules}
 use Rattle.utf8.proofs.is_utf8.Goals as goal
 
 pub loop-i-init : goal.loop-i-init

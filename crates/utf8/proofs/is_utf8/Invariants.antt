@@ -1,12 +1,9 @@
 -- `utf8::is_utf8` meets its contract: what is left of the character that was begun decides with the bytes behind it.
 use Prim.Native.Nat.{◌-◌}
-use mathlib.Core.Path.{◌≡◌, sym, ◌∙◌}
-use native.Mathlib.Omega.{arith}
+use mathlib.Core.Path.{◌≡◌}
 use lib.ListN.{length, drop}
 use Rattle.utf8.specs.Pass.{owed}
 use Rattle.utf8.specs.Utf8.{utf8_from, is_utf8}
-use Rattle.utf8.proofs.PassLaws.{owed-left, owed-malformed, from-left, from-malformed, from-single, from_start, from_end}
-use Rattle.std.proofs.Common.{rules}
 use Rattle.utf8.proofs.is_utf8.Given as goal
 
 abbrev pub invariant-loop-i : goal.invariant-loop-i

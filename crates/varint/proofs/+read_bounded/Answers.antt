@@ -1,5 +1,4 @@
 -- What is left to show, goal by goal.
-use Prim.Native.Nat.{ℕ, ◌<◌}
 use mathlib.Core.Path.{sym, ap, ◌∙◌}
 use native.Mathlib.Omega.{arith}
 use Rattle.varint.specs.Varint.{more}

@@ -2,7 +2,6 @@
 use mathlib.Core.Path.{sym, ap}
 use native.Mathlib.Omega.{arith}
 use Rattle.varint.specs.Varint.{more}
-use Rattle.std.proofs.Common.{rules}
 use Rattle.varint.proofs.joined.Goals as goal
 
 pub returns-in_default : goal.returns-in_default

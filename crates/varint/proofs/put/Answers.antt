@@ -3,7 +3,6 @@ use mathlib.Core.Path.{sym, ◌∙◌, ap}
 use lib.ListN.{length}
 use Rattle.buffer.specs.Stretch.{fits}
 use Rattle.buffer.proofs.Puts.{put_full}
-use Rattle.std.proofs.Common.{rules}
 use Rattle.varint.proofs.put.Goals as goal
 
 pub write-requires : goal.write-requires

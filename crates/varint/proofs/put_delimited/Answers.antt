@@ -7,7 +7,6 @@ use Rattle.buffer.proofs.Puts.{put-join, put_full}
 use Rattle.buffer.proofs.Stretches.{tested}
 use Rattle.varint.specs.Varint.{two, delimited}
 use Rattle.varint.proofs.Laws.{varint-length, delimited-length}
-use Rattle.std.proofs.Common.{rules}
 use Rattle.varint.proofs.put_delimited.Goals as goal
 
 pub overflow_add-n : goal.overflow_add-n

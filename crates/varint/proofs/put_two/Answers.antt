@@ -6,7 +6,6 @@ use Rattle.buffer.proofs.Puts.{put-join, put_full}
 use Rattle.buffer.proofs.Stretches.{tested}
 use Rattle.varint.specs.Varint.{two, varint}
 use Rattle.varint.proofs.Laws.{varint-length, two-length}
-use Rattle.std.proofs.Common.{rules}
 use Rattle.varint.proofs.put_two.Goals as goal
 
 pub overflow_add-n : goal.overflow_add-n

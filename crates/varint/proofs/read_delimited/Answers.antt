@@ -1,7 +1,6 @@
 -- `varint::read_delimited` meets its contract: a step of the definition at each answer.
 use mathlib.Core.Path.{sym, ap, ◌∙◌}
 use Rattle.varint.specs.Varint.{delimited_at, of_length, of_stretch}
-use Rattle.std.proofs.Common.{rules}
 use Rattle.varint.proofs.read_delimited.Goals as goal
 
 pub returns-in_default : goal.returns-in_default

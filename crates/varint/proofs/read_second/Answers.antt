@@ -5,7 +5,6 @@ use native.Mathlib.Omega.{arith}
 use Rattle.varint.specs.Varint.{more}
 use Rattle.varint.proofs.Laws.{read-digit, read_more, read_none}
 use Rattle.varint.proofs.Theorems.{spelt-small}
-use Rattle.std.proofs.Common.{rules}
 use Rattle.varint.proofs.read_second.Goals as goal
 
 many : ◌≡◌ {A = ℕ} 8 0 → ⊥

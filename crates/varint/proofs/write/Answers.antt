@@ -1,6 +1,6 @@
 -- What is left to show, goal by goal.
-use Prim.Native.Nat.{ℕ, ◌+◌, ◌/◌, ◌%◌, ◌≤◌, ◌<◌}
-use mathlib.Core.Path.{◌≡◌, refl, sym, ap, ◌∙◌}
+use Prim.Native.Nat.{ℕ, ◌+◌, ◌/◌, ◌%◌}
+use mathlib.Core.Path.{refl, sym, ap, ◌∙◌}
 use native.Mathlib.Numerals.{add-one}
 use native.Mathlib.Omega.{arith}
 use lib.ListN.{length, set, length-set}
@@ -8,7 +8,7 @@ use lib.Seq.{sets}
 use Rattle.buffer.proofs.Puts.{put-fits}
 use Rattle.buffer.proofs.Stretches.{room}
 use Rattle.varint.specs.Varint.{continued, spelling, varint}
-use Rattle.varint.proofs.Laws.{bound, spelling-end, spelling-more}
+use Rattle.varint.proofs.Laws.{spelling-end, spelling-more}
 use Rattle.varint.proofs.write.Goals as goal
 
 pub loop-rest-init : goal.loop-rest-init

@@ -1,12 +1,10 @@
 -- What is left to show, goal by goal.
-use mathlib.Core.Logic.{⊎_elim}
 use lib.ListN.{length, length-take}
-use Prim.Native.Nat.{◌-◌, ◌≤◌, ◌<◌}
+use Prim.Native.Nat.{◌-◌, ◌<◌}
 use mathlib.Core.Path.{◌≡◌, sym, ◌∙◌}
 use native.Mathlib.Omega.{arith}
 use Rattle.std.proofs.Common.{rules}
-use Rattle.waiting.specs.Waiting.{earliest}
-use Rattle.waiting.proofs.Laws.{rest_from, rest-start, rest-here, rest-next, rest_end}
+use Rattle.waiting.proofs.Laws.{rest-start, rest-here, rest-next, rest_end}
 use Rattle.waiting.proofs.find_earliest.Goals as goal
 use Rattle.waiting.proofs.find_earliest.Goals.{then-both, else-both}
 
@@ -24,8 +22,8 @@ loop-i-preserved c =
     let a = c.over_at-at.ensures in
     let b = c.both.ensures in (
       elim c.if-both.branch [
-        then-both w ↦ rw (w.best-is, w.over-is) (l.invariant.0 ∙ rest-here _ _ _ _ _ n _ a _ b w.if-both.true)
-      | else-both w ↦ rw (w.best-is, w.over-is) (l.invariant.0 ∙ rest-next _ _ _ _ _ n _ a _ b w.if-both.false)
+        | then-both w ↦ rw (w.best-is, w.over-is) (l.invariant.0 ∙ rest-here _ _ _ _ _ n _ a _ b w.if-both.true)
+        | else-both w ↦ rw (w.best-is, w.over-is) (l.invariant.0 ∙ rest-next _ _ _ _ _ n _ a _ b w.if-both.false)
       ],
       omega arith,
     )

@@ -1,12 +1,8 @@
 -- `waiting::find_earliest` meets its contract: the best so far, or one of those left.
-use mathlib.Core.Logic.{⊎_elim}
-use lib.ListN.{length, length-take}
-use Prim.Native.Nat.{◌-◌, ◌≤◌, ◌<◌}
-use mathlib.Core.Path.{◌≡◌, sym, ◌∙◌}
-use native.Mathlib.Omega.{arith}
-use Rattle.std.proofs.Common.{rules}
+use Prim.Native.Nat.{◌-◌, ◌≤◌}
+use mathlib.Core.Path.{◌≡◌}
 use Rattle.waiting.specs.Waiting.{earliest}
-use Rattle.waiting.proofs.Laws.{rest_from, rest-start, rest-here, rest-next, rest_end}
+use Rattle.waiting.proofs.Laws.{rest_from}
 use Rattle.waiting.proofs.find_earliest.Given as goal
 
 abbrev pub invariant-loop-i : goal.invariant-loop-i

@@ -2,7 +2,6 @@
 use native.Mathlib.Omega.{arith}
 use Rattle.waiting.specs.Waiting.{held_at}
 use Rattle.waiting.proofs.Laws.{url-most}
-use Rattle.std.proofs.Common.{rules}
 use Rattle.waiting.proofs.held_at.Goals as goal
 
 pub overflow_add-result : goal.overflow_add-result

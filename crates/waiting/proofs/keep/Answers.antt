@@ -1,6 +1,5 @@
 -- `waiting::keep` meets its contract: nothing is kept where no place is free, else one answer behind the others.
 use Rattle.waiting.proofs.Laws.{kept-not, kept-one, bytes-not, bytes_one}
-use Rattle.std.proofs.Common.{rules}
 use Rattle.waiting.proofs.keep.Goals as goal
 
 pub returns-then-n-ge4 : goal.returns-then-n-ge4

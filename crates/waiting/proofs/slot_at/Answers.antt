@@ -1,6 +1,5 @@
 -- `waiting::slot_at` meets its contract: a slot of four, or none.
 use Rattle.waiting.proofs.Laws.{slot-none, slot-one}
-use Rattle.std.proofs.Common.{rules}
 use Rattle.waiting.proofs.slot_at.Goals as goal
 
 pub returns-then-slot-ge4 : goal.returns-then-slot-ge4

@@ -1,8 +1,7 @@
 -- `waiting::take_due` meets its contract: none waits, the earliest is not due, or it is taken out.
-use Prim.Native.Nat.{◌<◌}
 use mathlib.Core.Path.{◌≡◌}
 use native.Mathlib.Omega.{arith}
-use lib.ListN.{length, length-map}
+use lib.ListN.{length}
 use Rattle.waiting.proofs.Laws.{earliest-within, due-none, due-later, due-now}
 use Rattle.std.proofs.Common.{rules}
 use Rattle.waiting.proofs.take_due.Goals as goal

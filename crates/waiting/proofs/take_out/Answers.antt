@@ -1,7 +1,5 @@
 -- `waiting::take_out` meets its contract: each place of the four.
-use mathlib.Core.Path.{◌≡◌}
 use native.Mathlib.Omega.{arith}
-use lib.ListN.{length}
 use Rattle.waiting.proofs.Laws.{without-first, without-second, without-third, without-last}
 use Rattle.std.proofs.Common.{rules}
 use Rattle.waiting.proofs.take_out.Goals as goal

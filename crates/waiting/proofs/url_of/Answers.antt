@@ -1,6 +1,5 @@
 -- `waiting::url_of` meets its contract: a part of the lent buffer.
 use Rattle.waiting.specs.Waiting.{url_in}
-use Rattle.std.proofs.Common.{rules}
 use Rattle.waiting.proofs.url_of.Goals as goal
 
 pub returns : goal.returns

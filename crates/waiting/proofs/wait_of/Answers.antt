@@ -3,7 +3,6 @@ use mathlib.Core.Path.{refl}
 use native.Mathlib.Omega.{arith}
 use Rattle.waiting.specs.Waiting.{wait_of}
 use Rattle.waiting.proofs.Laws.{wait-most}
-use Rattle.std.proofs.Common.{rules}
 use Rattle.waiting.proofs.wait_of.Goals as goal
 
 pub overflow_cast-result-3 : goal.overflow_cast-result-3

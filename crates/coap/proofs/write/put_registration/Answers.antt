@@ -1,5 +1,4 @@
 -- `coap::write::put_registration` meets its contract: an own head, CON, to `r`.
-use Rattle.std.proofs.Common.{rules}
 use Rattle.coap.proofs.write.put_registration.Goals as goal
 
 pub returns : goal.returns

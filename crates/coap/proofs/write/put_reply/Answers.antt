@@ -1,5 +1,4 @@
 -- `put_reply` meets its contract: the head is one of two, by whether a payload follows.
-use Rattle.std.proofs.Common.{rules}
 use Rattle.coap.proofs.write.put_reply.Goals as goal
 
 pub returns-then-filled : goal.returns-then-filled

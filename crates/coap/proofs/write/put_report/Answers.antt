@@ -1,5 +1,4 @@
 -- `coap::write::put_report` meets its contract: an own head, NON, to `c`.
-use Rattle.std.proofs.Common.{rules}
 use Rattle.coap.proofs.write.put_report.Goals as goal
 
 pub returns : goal.returns

@@ -1,5 +1,4 @@
 -- `coap::write::put_reset` meets its contract: four bytes.
-use Rattle.std.proofs.Common.{rules}
 use Rattle.coap.proofs.write.put_reset.Goals as goal
 
 pub returns : goal.returns

@@ -2,7 +2,6 @@
 use mathlib.Core.Path.{sym, ap}
 use Rattle.csmp.specs.Values.{at_most}
 use Rattle.csmp.proofs.ValueLaws.{at-most-none}
-use Rattle.std.proofs.Common.{rules}
 use Rattle.csmp.proofs.values.at_most.Goals as goal
 
 pub returns-in_default : goal.returns-in_default

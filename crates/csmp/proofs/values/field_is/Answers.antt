@@ -2,7 +2,6 @@
 use mathlib.Core.Path.{sym, ap, ◌∙◌}
 use Rattle.buffer.specs.Same.{same_bytes}
 use Rattle.csmp.specs.Values.{field_is}
-use Rattle.std.proofs.Common.{rules}
 use Rattle.csmp.proofs.values.field_is.Goals as goal
 
 pub returns-in_default : goal.returns-in_default

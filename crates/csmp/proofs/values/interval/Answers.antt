@@ -1,7 +1,6 @@
 -- `csmp::values::interval` meets its contract: the definition at either case.
 use mathlib.Core.Path.{sym, ap}
 use Rattle.csmp.specs.Values.{interval_of}
-use Rattle.std.proofs.Common.{rules}
 use Rattle.csmp.proofs.values.interval.Goals as goal
 
 pub returns-in_default : goal.returns-in_default

@@ -1,7 +1,6 @@
 -- `csmp::values::interval_number` meets its contract: the definition at either case.
 use mathlib.Core.Path.{sym, ap}
 use Rattle.csmp.specs.Values.{interval_number}
-use Rattle.std.proofs.Common.{rules}
 use Rattle.csmp.proofs.values.interval_number.Goals as goal
 
 pub returns-in_default : goal.returns-in_default

@@ -1,7 +1,6 @@
 -- `csmp::values::moment` meets its contract: the definition at either case.
 use mathlib.Core.Path.{sym, ap}
 use Rattle.csmp.specs.Values.{moment_of}
-use Rattle.std.proofs.Common.{rules}
 use Rattle.csmp.proofs.values.moment.Goals as goal
 
 pub returns-in_default : goal.returns-in_default

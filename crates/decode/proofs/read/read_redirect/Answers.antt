@@ -2,7 +2,6 @@
 use mathlib.Core.Path.{refl}
 use Rattle.tables.specs.Found.{cells_of, held_cells, none_found, none_held}
 use Rattle.decode.proofs.Laws.{redirect-by}
-use Rattle.std.proofs.Common.{rules}
 use Rattle.decode.proofs.read.read_redirect.Goals as goal
 
 pub returns : goal.returns

@@ -5,7 +5,6 @@ use Rattle.csmp.proofs.Formed.{signature-formed}
 use Rattle.tables.specs.Found.{cells_of, held_cells, none_found, none_held}
 use Rattle.tables.proofs.Theorems.{told-by}
 use Rattle.decode.specs.Read.{signature_of}
-use Rattle.std.proofs.Common.{rules}
 use Rattle.decode.proofs.read.read_signature.Goals as goal
 
 pub returns : goal.returns

@@ -3,7 +3,6 @@ use mathlib.Core.Path.{refl, ap, ◌∙◌}
 use Rattle.csmp.specs.Values.{moment_of}
 use Rattle.tables.specs.Found.{cells_of, held_cells, none_found, none_held}
 use Rattle.decode.proofs.Laws.{validity-by}
-use Rattle.std.proofs.Common.{rules}
 use Rattle.decode.proofs.read.read_validity.Goals as goal
 
 pub returns : goal.returns

@@ -1,6 +1,5 @@
 -- `firmware::place::echo` meets its contract: both parts are what their makers ensure.
 use Rattle.firmware.specs.Place.{echoed}
-use Rattle.std.proofs.Common.{rules}
 use Rattle.firmware.proofs.place.echo.Goals as goal
 
 pub returns : goal.returns

@@ -1,7 +1,6 @@
 -- `firmware::place::hash_at` meets its contract: the bytes are copied to the front of zeros.
 use mathlib.Core.Path.{sym, ap}
 use Rattle.firmware.specs.Place.{hash_at}
-use Rattle.std.proofs.Common.{rules}
 use Rattle.firmware.proofs.place.hash_at.Goals as goal
 
 pub returns-in_default : goal.returns-in_default

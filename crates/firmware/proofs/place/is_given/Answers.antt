@@ -1,6 +1,4 @@
 -- `place::is_given` meets its contract: without one there is no such hash.
-use borrow.Author.Tests.{not-true, not-false}
-use Rattle.std.proofs.Common.{rules}
 use Rattle.firmware.proofs.place.is_given.Goals as goal
 
 pub returns-then-not-kept : goal.returns-then-not-kept

@@ -2,7 +2,6 @@
 use mathlib.Core.Path.{sym, ap}
 use Rattle.firmware.specs.Place.{is_hash}
 use Rattle.firmware.proofs.Hashes.{hash-backward}
-use Rattle.std.proofs.Common.{rules}
 use Rattle.firmware.proofs.place.is_hash.Goals as goal
 
 pub returns-in_default : goal.returns-in_default

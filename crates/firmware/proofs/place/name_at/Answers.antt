@@ -1,7 +1,6 @@
 -- `firmware::place::name_at` meets its contract: the bytes are copied to the front of zeros.
 use mathlib.Core.Path.{sym, ap}
 use Rattle.firmware.specs.Place.{name_at}
-use Rattle.std.proofs.Common.{rules}
 use Rattle.firmware.proofs.place.name_at.Goals as goal
 
 pub returns-in_default : goal.returns-in_default

@@ -1,11 +1,9 @@
 -- What is left to show, goal by goal.
-use Prim.Native.Nat.{ℕ, ◌-◌, ◌<◌}
+use Prim.Native.Nat.{◌-◌, ◌<◌}
 use mathlib.Core.Path.{◌≡◌, sym, ◌∙◌}
-use mathlib.Core.Logic.{◌⊎◌, inl, inr}
 use native.Mathlib.Omega.{arith}
-use lib.ListN.{length, length-map, length-take}
-use Rattle.post.specs.Value.{has_pair}
-use Rattle.post.proofs.Laws.{pair_from, pair-start, pair_end, pair-here, pair-kind, pair-id}
+use lib.ListN.{length, length-take}
+use Rattle.post.proofs.Laws.{pair-start, pair_end, pair-here, pair-kind, pair-id}
 use Rattle.post.proofs.value.has_pair.Goals as goal
 use Rattle.post.proofs.value.has_pair.Goals.{then-pair-kind+else-pair-id, else-pair-kind}
 use Rattle.std.proofs.Common.{rules}
@@ -44,9 +42,9 @@ loop-i-preserved c =
     let n : l.i < length a.groups.list = (let e : length a.groups.list ≡ 8 = search rules in omega arith) in
     l.invariant
     ∙ elim c.if-pair-kind.branch [
-        then-pair-kind+else-pair-id w ↦ pair-id a.groups l.i a.kind a.id c.if-groups-i.false n w.if-pair-kind.true w.if-pair-id.false
+      | then-pair-kind+else-pair-id w ↦ pair-id a.groups l.i a.kind a.id c.if-groups-i.false n w.if-pair-kind.true w.if-pair-id.false
       | else-pair-kind w ↦ pair-kind a.groups l.i a.kind a.id c.if-groups-i.false n w.if-pair-kind.false
-      ]
+    ]
 
 pub returns : goal.returns
 returns c =

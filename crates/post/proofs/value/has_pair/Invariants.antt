@@ -1,11 +1,8 @@
 -- `value::has_pair` meets its contract: what was not found yet is among the pairs left.
-use Prim.Native.Nat.{ℕ, ◌-◌, ◌<◌}
-use mathlib.Core.Path.{◌≡◌, sym, ◌∙◌}
-use mathlib.Core.Logic.{◌⊎◌, inl, inr}
-use native.Mathlib.Omega.{arith}
-use lib.ListN.{length, length-map, length-take}
+use Prim.Native.Nat.{◌-◌}
+use mathlib.Core.Path.{◌≡◌}
 use Rattle.post.specs.Value.{has_pair}
-use Rattle.post.proofs.Laws.{pair_from, pair-start, pair_end, pair-here, pair-kind, pair-id}
+use Rattle.post.proofs.Laws.{pair_from}
 use Rattle.post.proofs.value.has_pair.Given as goal
 
 abbrev pub invariant-loop-i : goal.invariant-loop-i

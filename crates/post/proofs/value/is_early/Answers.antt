@@ -1,6 +1,5 @@
 -- `value::is_early` meets its contract: an absent bound is open, and else the bound is after now or not.
 use Rattle.post.specs.Value.{is_early}
-use Rattle.std.proofs.Common.{rules}
 use Rattle.post.proofs.value.is_early.Goals as goal
 
 pub returns-in_default : goal.returns-in_default

@@ -1,7 +1,6 @@
 -- `value::is_expired` meets its contract: another type has no bounds, and else one of the two is passed or not.
 use borrow.Author.Tests.{eq-eqb, ne_eqb}
 use Rattle.post.specs.Value.{is_expired}
-use Rattle.std.proofs.Common.{rules}
 use Rattle.post.proofs.value.is_expired.Goals as goal
 
 pub returns-then-kind-ne76 : goal.returns-then-kind-ne76

@@ -1,6 +1,5 @@
 -- `value::is_late` meets its contract: an absent bound is open, and else the bound is before now or not.
 use Rattle.post.specs.Value.{is_late}
-use Rattle.std.proofs.Common.{rules}
 use Rattle.post.proofs.value.is_late.Goals as goal
 
 pub returns-in_default : goal.returns-in_default

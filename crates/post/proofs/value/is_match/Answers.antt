@@ -1,6 +1,5 @@
 -- `value::is_match` meets its contract: another type names no group, and else both parts are needed.
 use mathlib.Core.Path.{sym, ◌∙◌}
-use Rattle.std.proofs.Common.{rules}
 use Rattle.post.proofs.Laws.{match-other, match-no-kind, match-no-id, match-pair}
 use Rattle.post.proofs.value.is_match.Goals as goal
 

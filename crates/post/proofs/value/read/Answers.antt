@@ -1,7 +1,7 @@
 -- `value::read` meets its contract: the type tells which reader decides.
 use borrow.Author.Tests.{ne_eqb}
 use Rattle.post.specs.Value.{reading_at}
-use Rattle.std.proofs.Common.{rules, arith}
+use Rattle.std.proofs.Common.{arith}
 use Rattle.post.proofs.value.read.Goals as goal
 
 pub returns-in-6 : goal.returns-in-6

@@ -1,6 +1,5 @@
 -- `protobuf::put_bytes` meets its contract: the call appends what the definition says.
 use Rattle.protobuf.specs.Write.{bytes_field}
-use Rattle.std.proofs.Common.{rules}
 use Rattle.protobuf.proofs.write.put_bytes.Goals as goal
 
 pub returns : goal.returns

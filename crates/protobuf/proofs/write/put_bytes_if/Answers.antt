@@ -1,6 +1,5 @@
 -- `protobuf::write::put_bytes_if` meets its contract: the definition at either case.
 use Rattle.protobuf.specs.Write.{if_any}
-use Rattle.std.proofs.Common.{rules}
 use Rattle.protobuf.proofs.write.put_bytes_if.Goals as goal
 
 pub returns-then-given : goal.returns-then-given

@@ -1,6 +1,5 @@
 -- `protobuf::write::put_given` meets its contract: the definition at either case.
 use Rattle.protobuf.specs.Write.{if_any}
-use Rattle.std.proofs.Common.{rules}
 use Rattle.protobuf.proofs.write.put_given.Goals as goal
 
 pub returns-in_default : goal.returns-in_default

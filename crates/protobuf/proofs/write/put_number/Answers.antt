@@ -1,6 +1,5 @@
 -- `protobuf::put_number` meets its contract: the call appends what the definition says.
 use Rattle.protobuf.specs.Write.{number_field}
-use Rattle.std.proofs.Common.{rules}
 use Rattle.protobuf.proofs.write.put_number.Goals as goal
 
 pub returns : goal.returns

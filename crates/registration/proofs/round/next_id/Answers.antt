@@ -1,7 +1,6 @@
 -- `round::next_id` meets its contract: up by one, or back to 0.
 use native.Mathlib.Omega.{arith}
 use Rattle.registration.proofs.Rounds.{id-wraps, id-up}
-use Rattle.std.proofs.Common.{rules}
 use Rattle.registration.proofs.round.next_id.Goals as goal
 
 pub returns-then-id-eq65535 : goal.returns-then-id-eq65535

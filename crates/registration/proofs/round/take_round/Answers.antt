@@ -1,6 +1,5 @@
 -- `round::take_round` meets its contract: awaited, the next message id, the next interval.
 use Rattle.registration.proofs.Rounds.{round-taken}
-use Rattle.std.proofs.Common.{rules}
 use Rattle.registration.proofs.round.take_round.Goals as goal
 
 pub returns : goal.returns

@@ -3,7 +3,6 @@ use Prim.Native.Nat.{◌+◌, ◌-◌}
 use mathlib.Core.Path.{sym}
 use native.Mathlib.Omega.{arith}
 use Rattle.registration.proofs.Waits.{rem-most, rem_below, half-most, backoff-is}
-use Rattle.std.proofs.Common.{rules}
 use Rattle.registration.proofs.wait.backoff.Goals as goal
 
 pub overflow_sub-rest : goal.overflow_sub-rest

@@ -1,7 +1,6 @@
 -- `wait::double` meets its contract: below the largest, or the largest.
 use mathlib.Core.Path.{sym}
 use Rattle.registration.proofs.Waits.{doubled-below, doubled-stops}
-use Rattle.std.proofs.Common.{rules}
 use Rattle.registration.proofs.wait.double.Goals as goal
 
 pub returns-then-twice-largest : goal.returns-then-twice-largest

@@ -3,7 +3,6 @@ use Prim.Native.Nat.{◌+◌}
 use mathlib.Core.Path.{sym}
 use native.Mathlib.Omega.{arith}
 use Rattle.registration.proofs.Waits.{wait-none, wait-some, rem-most}
-use Rattle.std.proofs.Common.{rules}
 use Rattle.registration.proofs.wait.first_wait.Goals as goal
 
 pub returns-then-registration : goal.returns-then-registration

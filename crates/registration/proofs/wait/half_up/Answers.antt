@@ -1,6 +1,5 @@
 -- `wait::half_up` meets its contract: by arithmetic.
 use Rattle.registration.proofs.Waits.{half-sum}
-use Rattle.std.proofs.Common.{rules}
 use Rattle.registration.proofs.wait.half_up.Goals as goal
 
 pub returns : goal.returns

@@ -1,5 +1,4 @@
 -- `run::front::block_at` meets its contract: the block read last says what its value says.
-use Rattle.std.proofs.Common.{rules}
 use Rattle.run.proofs.Fronts.{block_same}
 use Rattle.run.proofs.front.block_at.Goals as goal
 

@@ -1,14 +1,10 @@
 -- What is left to show, goal by goal.
 use Prim.Native.Nat.{◌-◌}
-use mathlib.Core.Path.{◌≡◌, refl, sym, ◌∙◌}
+use mathlib.Core.Path.{refl, sym, ◌∙◌}
 use native.Mathlib.Omega.{arith}
 use Rattle.std.proofs.Common.{rules}
-use lib.ListN.{length}
-use Rattle.state.specs.declared.Images.{Images}
 use Rattle.tlv.proofs.Laws.{record-inside}
 use Rattle.transfer.specs.Bitmap.{with_held}
-use Rattle.transfer.specs.Block.{Parts}
-use Rattle.run.specs.Front.{FrontBy, with_blocks}
 use Rattle.run.proofs.Fronts.{front-start, front-unreadable, front-skipped, front-block}
 use Rattle.run.proofs.front.take_blocks.Goals as goal
 

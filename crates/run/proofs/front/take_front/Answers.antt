@@ -1,6 +1,5 @@
 -- `run::front::take_front` meets its contract: the open image has the parts that were handed on.
 use mathlib.Core.Path.{refl}
-use Rattle.std.proofs.Common.{rules}
 use Rattle.run.proofs.front.take_front.Goals as goal
 
 pub returns : goal.returns

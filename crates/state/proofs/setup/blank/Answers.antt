@@ -1,6 +1,5 @@
 -- `state::setup::blank` meets its contract.
 use Rattle.state.specs.Setup.{blank_state}
-use Rattle.std.proofs.Common.{rules}
 use Rattle.state.proofs.setup.blank.Goals as goal
 
 pub returns : goal.returns

@@ -1,6 +1,5 @@
 -- `state::setup::hw_id_of` meets its contract: the bytes are copied to the front of zeros.
 use Rattle.state.specs.Setup.{hw_id_of}
-use Rattle.std.proofs.Common.{rules}
 use Rattle.state.proofs.setup.hw_id_of.Goals as goal
 
 pub returns : goal.returns

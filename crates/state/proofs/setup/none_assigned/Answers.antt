@@ -1,5 +1,4 @@
 -- `state::setup::none_assigned` meets its contract.
-use Rattle.std.proofs.Common.{rules}
 use Rattle.state.proofs.setup.none_assigned.Goals as goal
 
 pub returns : goal.returns

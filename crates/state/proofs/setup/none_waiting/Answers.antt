@@ -1,5 +1,4 @@
 -- `state::setup::none_waiting` meets its contract: four places that are free.
-use Rattle.std.proofs.Common.{rules}
 use Rattle.state.proofs.setup.none_waiting.Goals as goal
 
 pub returns : goal.returns

@@ -1,5 +1,4 @@
 -- `state::setup::only_running` meets its contract.
-use Rattle.std.proofs.Common.{rules}
 use Rattle.state.proofs.setup.only_running.Goals as goal
 
 pub returns : goal.returns

@@ -1,5 +1,4 @@
 -- `state::setup::refuse` meets its contract.
-use Rattle.std.proofs.Common.{rules}
 use Rattle.state.proofs.setup.refuse.Goals as goal
 
 pub returns : goal.returns

@@ -1,8 +1,6 @@
 -- `state::setup::set_up` meets its contract: a failed check refuses, and else the first state is made.
 use mathlib.Core.Path.{sym, ◌∙◌}
-use borrow.Author.Tests.{not-true, not-false}
 use Rattle.state.specs.Setup.{setup_of}
-use Rattle.std.proofs.Common.{rules}
 use Rattle.state.proofs.setup.set_up.Goals as goal
 
 pub returns-then-not-valid_texts : goal.returns-then-not-valid_texts

@@ -1,6 +1,5 @@
 -- `state::setup::url_of` meets its contract: the bytes are copied to the front of zeros.
 use Rattle.state.specs.Setup.{url_of}
-use Rattle.std.proofs.Common.{rules}
 use Rattle.state.proofs.setup.url_of.Goals as goal
 
 pub returns : goal.returns

@@ -1,8 +1,7 @@
 -- `state::setup::valid_settings` meets its contract: each test that fails decides.
 use mathlib.Core.Path.{sym, ◌∙◌}
-use borrow.Author.Tests.{not-true, not-false, lt-leb, le-leb}
+use borrow.Author.Tests.{lt-leb, le-leb}
 use Rattle.state.specs.Setup.{valid_settings}
-use Rattle.std.proofs.Common.{rules}
 use Rattle.state.proofs.setup.valid_settings.Goals as goal
 
 pub returns-then-not-between : goal.returns-then-not-between

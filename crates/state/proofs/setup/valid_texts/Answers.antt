@@ -1,9 +1,8 @@
 -- `state::setup::valid_texts` meets its contract: each test that fails decides.
 use mathlib.Core.Path.{sym, ◌∙◌}
-use borrow.Author.Tests.{not-true, not-false, lt-leb, le-leb, eq-eqb, ne_eqb}
+use borrow.Author.Tests.{lt-leb, le-leb, eq-eqb, ne_eqb}
 use lib.ListN.{length}
 use Rattle.state.specs.Setup.{valid_texts}
-use Rattle.std.proofs.Common.{rules}
 use Rattle.state.proofs.setup.valid_texts.Goals as goal
 
 pub returns-then-not-between : goal.returns-then-not-between

@@ -1,7 +1,6 @@
 -- `reader::record_at` meets its contract: a step of the definition at each answer.
 use mathlib.Core.Path.{sym, ap, ◌∙◌}
 use Rattle.tlv.specs.Record.{record_at, of_kind, of_value}
-use Rattle.std.proofs.Common.{rules}
 use Rattle.tlv.proofs.reader.record_at.Goals as goal
 
 pub returns-in_default : goal.returns-in_default

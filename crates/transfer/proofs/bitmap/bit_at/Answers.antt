@@ -1,5 +1,5 @@
 -- `transfer::bitmap::bit_at` meets its contract: the weight is a power of two.
-use Rattle.std.proofs.Common.{sym, pow_pos, rules}
+use Rattle.std.proofs.Common.{sym, pow_pos}
 use Rattle.transfer.proofs.Bits.{bit-weight}
 use Rattle.transfer.proofs.bitmap.bit_at.Goals as goal
 

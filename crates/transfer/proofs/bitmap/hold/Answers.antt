@@ -1,5 +1,5 @@
 -- `transfer::bitmap::hold` meets its contract: the byte of a number in range is raised.
-use Rattle.std.proofs.Common.{sym, rules}
+use Rattle.std.proofs.Common.{sym}
 use Rattle.transfer.proofs.Marks.{marked-below, marked-beyond}
 use Rattle.transfer.proofs.bitmap.hold.Goals as goal
 

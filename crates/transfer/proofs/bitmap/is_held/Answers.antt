@@ -1,5 +1,5 @@
 -- `transfer::bitmap::is_held` meets its contract: the bit of a number in range.
-use Rattle.std.proofs.Common.{sym, ◌∙◌, rules}
+use Rattle.std.proofs.Common.{sym, ◌∙◌}
 use Rattle.transfer.proofs.Marks.{held_below, held-beyond}
 use Rattle.transfer.proofs.bitmap.is_held.Goals as goal
 

@@ -1,5 +1,5 @@
 -- `transfer::bitmap::raise` meets its contract: a bit that is not set adds its weight, and what it gives has eight bits.
-use Rattle.std.proofs.Common.{sym, ◌∙◌, arith, rules}
+use Rattle.std.proofs.Common.{sym, ◌∙◌, arith}
 use Rattle.transfer.proofs.Bits.{raised-set, raised-weight, raised-small}
 use Rattle.transfer.proofs.bitmap.raise.Goals as goal
 

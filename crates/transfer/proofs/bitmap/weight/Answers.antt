@@ -1,5 +1,5 @@
 -- `transfer::bitmap::weight` meets its contract: each key is a bit's number.
-use Rattle.std.proofs.Common.{◌≡◌, ◌≤◌, arith}
+use Rattle.std.proofs.Common.{◌≡◌, arith}
 use Rattle.transfer.proofs.bitmap.weight.Goals as goal
 
 pub returns-in-0 : goal.returns-in-0

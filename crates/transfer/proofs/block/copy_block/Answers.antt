@@ -1,5 +1,5 @@
 -- `transfer::block::copy_block` meets its contract: stores past the end change nothing.
-use Rattle.std.proofs.Common.{sym, arith, rules}
+use Rattle.std.proofs.Common.{sym, arith}
 use Rattle.buffer.proofs.Puts.{sets-out, sets-tail}
 use Rattle.transfer.proofs.block.copy_block.Goals as goal
 

@@ -1,5 +1,5 @@
 -- `transfer::block::fits_at` meets its contract: the number is tested first.
-use Rattle.std.proofs.Common.{eqb, sym, ap, ◌∙◌, arith, rules}
+use Rattle.std.proofs.Common.{eqb, sym, ap, ◌∙◌, arith}
 use Rattle.transfer.proofs.BlockLaws.{fits-beyond, fits-length}
 use Rattle.transfer.proofs.block.fits_at.Goals as goal
 

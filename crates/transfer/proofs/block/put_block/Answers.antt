@@ -1,6 +1,5 @@
 -- `transfer::block::put_block` meets its contract: only a block that fits and is missing is put.
-use Rattle.std.proofs.Common.{sym, ◌∙◌, arith, rules}
-use borrow.Author.Tests.{not-true, not-false}
+use Rattle.std.proofs.Common.{sym, ◌∙◌, arith}
 use Rattle.transfer.specs.Bitmap.{one_more}
 use Rattle.transfer.proofs.BlockLaws.{left-unfit, left-held, left-new}
 use Rattle.transfer.proofs.Lengths.{product_small}

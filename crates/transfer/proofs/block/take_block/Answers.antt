@@ -1,6 +1,5 @@
 -- `transfer::block::take_block` meets its contract: an offer with the open hash, a number and bytes is put.
-use Rattle.std.proofs.Common.{sym, ◌∙◌, rules}
-use borrow.Author.Tests.{not-true, not-false}
+use Rattle.std.proofs.Common.{sym, ◌∙◌}
 use Rattle.transfer.proofs.BlockLaws.{left_other, left-numberless, left-dataless, left-this}
 use Rattle.transfer.proofs.block.take_block.Goals as goal
 
