@@ -10,7 +10,7 @@
 use agent::State;
 use script::Line;
 use std::io;
-use std::io::{BufWriter, Write};
+use std::io::Write;
 
 fn show<W: Write>(writer: &mut W, outcome: u32, len: usize) -> io::Result<()> {
     lines::word(writer, b" -> outcome=")?;
@@ -217,7 +217,6 @@ fn play<W: Write>(writer: &mut W, s: &[u8]) -> io::Result<()> {
 fn main(rt: HostRuntime) -> io::Result<()> {
     let mut space = [0u8; 65536];
     let n = lines::read_full(&mut rt.reader(), &mut space);
-    let mut writer = BufWriter::new(rt.alloc(), io::writer(&rt))?;
-    play(&mut writer, buffer::front(&space, n))?;
-    writer.flush()
+    let mut writer = io::writer(&rt);
+    play(&mut writer, buffer::front(&space, n))
 }

@@ -4,7 +4,7 @@
 // to meet is those listings in the order of the arguments.
 #![tactic(auto)]
 
-use std::io::{BufWriter, Write};
+use std::io::Write;
 use std::rt::Files;
 use std::{env, fs, io};
 
@@ -20,9 +20,9 @@ fn list_file<W: Write>(writer: &mut W, rt: &(impl Files + Eprint), path: &str) -
 }
 
 fn main(rt: HostRuntime) -> io::Result<()> {
-    let mut writer = BufWriter::new(rt.alloc(), io::writer(&rt))?;
+    let mut writer = io::writer(&rt);
     for path in env::args(&rt)?.skip(1).take(64) {
         list_file(&mut writer, &rt, path.as_str())?;
     }
-    writer.flush()
+    Ok(())
 }

@@ -2,13 +2,12 @@
 #![tactic(auto)]
 
 use std::io;
-use std::io::{BufWriter, Write};
+use std::io::Write;
 
 fn main(rt: HostRuntime) -> io::Result<()> {
     // One byte more than a capture may have, so that a longer file is told.
     let mut space = [0u8; 65537];
     let n = lines::read_full(&mut rt.reader(), &mut space);
-    let mut writer = BufWriter::new(rt.alloc(), io::writer(&rt))?;
-    lister::list(&mut writer, buffer::front(&space, n))?;
-    writer.flush()
+    let mut writer = io::writer(&rt);
+    lister::list(&mut writer, buffer::front(&space, n))
 }

@@ -19,7 +19,7 @@ ghost use Rattle.std.specs.Prelude.{◌≤◌};
 use agent::State;
 use script::Line;
 use std::io;
-use std::io::{BufWriter, Write};
+use std::io::Write;
 
 fn set_up<W: Write>(writer: &mut W, line: &[u8]) -> io::Result<State> {
     let made = script::set_up(line);
@@ -255,10 +255,13 @@ fn play<W: Write>(writer: &mut W, s: &[u8]) -> io::Result<()> {
     Ok(())
 }
 
+// The bytes that the calls are read into. They come from a call, since the check would work out a literal of this length where it is lent.
+fn room_for_calls() -> [u8; 524288] {
+    [0u8; 524288]
+}
+
 fn main(rt: HostRuntime) -> io::Result<()> {
-    let mut space = vec![in rt.alloc(); 0u8; 524288]?;
+    let mut space = room_for_calls();
     let n = lines::read_full(&mut rt.reader(), &mut space);
-    let mut writer = BufWriter::new(rt.alloc(), io::writer(&rt))?;
-    play(&mut writer, buffer::front(&space, n))?;
-    writer.flush()
+    play(&mut io::writer(&rt), buffer::front(&space, n))
 }

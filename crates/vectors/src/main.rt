@@ -13,7 +13,7 @@ mod say;
 mod texts;
 
 use std::io;
-use std::io::{BufWriter, Write};
+use std::io::Write;
 use tlv::Taken;
 
 fn print_as<W: Write>(writer: &mut W, vectors: u64, kind: u64, v: &[u8]) -> io::Result<()> {
@@ -48,8 +48,7 @@ fn print_vectors<W: Write>(writer: &mut W, s: &[u8]) -> io::Result<()> {
 fn main(rt: HostRuntime) -> io::Result<()> {
     let mut space = [0u8; 16384];
     let n = lines::read_full(&mut rt.reader(), &mut space);
-    let mut writer = BufWriter::new(rt.alloc(), io::writer(&rt))?;
+    let mut writer = io::writer(&rt);
     print_vectors(&mut writer, &space[..n])?;
-    made::all(&mut writer)?;
-    writer.flush()
+    made::all(&mut writer)
 }
