@@ -1,0 +1,10 @@
+pub mod Walks
+pub mod Numbers
+pub mod Records
+pub mod Fields
+pub mod Values
+pub mod Rises
+pub mod TableForm
+pub mod TableUnchanged
+pub mod TableWritten
+pub mod Theorems
