@@ -1,0 +1,4 @@
+pub mod Example
+pub mod Copied
+pub mod OwnStretches
+pub mod Shown
