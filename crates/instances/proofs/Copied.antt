@@ -2,21 +2,23 @@
 use Prim.Native.Nat.{ℕ, ◌+◌, ◌-◌, ◌^◌, ◌<◌}
 use mathlib.Core.Path.{◌≡◌, refl, sym, ap, ◌∙◌}
 use mathlib.Core.List.{List, [], ◌++◌, append-nil, append_assoc}
-use mathlib.Core.Bool.{Bool, true, false, ◌||◌}
-use mathlib.Core.Logic.{◌⊎◌, inl, inr, ⊎_elim}
+use mathlib.Core.Bool.{Bool, true, false}
+use mathlib.Core.Logic.{⊎_elim}
 use native.Mathlib.Omega.{arith}
 use borrow.Author.Tests.{eqb-true}
 use lib.Dec.{eqb}
 use lib.ListN.{length, take, drop, length-append}
 use lib.Seq.{take_at, drop_at}
 use Rattle.buffer.specs.Pick.{pick}
+use Rattle.instances.proofs.Exact.{one_of}
 use Rattle.copy.proofs.Laws.{copies_at, copies-start, copies-end, copies-more}
 use Rattle.copy.specs.Shown.{is_own, chosen, copies}
 use Rattle.copy.specs.declared.Choice.{Choice}
 use Rattle.tables.specs.Statements.{Texts}
 use Rattle.tables.specs.Table.{Values, write_by}
 use Rattle.tlv.proofs.Theorems.{standing, record-back}
-use Rattle.tlv.specs.Record.{record_bytes}
+use Rattle.tlv.specs.Record.{record_at, record_bytes}
+use Rattle.tlv.specs.declared.Taken.TheVariants.{Record as Whole}
 use Rattle.calls.specs.Text.{table_of}
 
 -- such records of one type, with lengths that can be read
@@ -35,10 +37,6 @@ pub data Owns : List ℕ → Type 0 where
 unfoldable pub stretches : Choice → {bs : List ℕ} → Owns bs → List ℕ
 stretches c (last kind {a = a} o) = pick (chosen c kind) a []
 stretches c (ahead kind {a = a} o os) = pick (chosen c kind) a [] ++ stretches c os
-
-one_of : (t u : Bool) → (t || u) ≡ true → (t ≡ true) ⊎ (u ≡ true)
-one_of true u e = inl refl
-one_of false u e = inr e
 
 own-small : (kind : ℕ) → is_own kind ≡ true → kind < 2 ^ 64
 unfolding is_own
@@ -101,3 +99,31 @@ owns-copied {bs} os c = copies-start bs c ∙ owns-at bs c os [] 0 refl refl
 -- and of nothing, nothing
 pub none-copied : (c : Choice) → copies [] c ≡ []
 none-copied c = copies-start [] c ∙ copies-end [] c 0 (omega arith)
+
+-- what holds behind each such record, if it holds before it, holds before all of them
+module _ (s : List ℕ) (P : ℕ → Type 0)
+    (step : (kind : ℕ) (v : Values (table_of kind)) (at : ℕ) → let w = write_by (table_of kind) v in is_own kind ≡ true
+    → record_at s at ≡ Whole (standing at kind w) → P (at + length (record_bytes kind w)) → P at) where
+  own-from : (kind : ℕ) {bs : List ℕ} → Own kind bs → (front rest : List ℕ) (at end : ℕ) → s ≡ front ++ (bs ++ rest) → at ≡ length front
+      → end ≡ at + length bs → P end → P at
+  own-from kind empty front rest at end e p q k = let z : end ≡ at = omega arith in rw z at k
+  own-from kind (single v h t l) front rest at end e p q k =
+      let w = write_by (table_of kind) v in
+      step kind v at h (record-back s front at kind w rest e p (own-small kind h) l) (rw q at k)
+  own-from kind (joined {a = a} {b = b} x y) front rest at end e p q k =
+      let f : s ≡ front ++ (a ++ (b ++ rest)) = e ∙ ap (◌++◌ front) (append_assoc a b rest) in
+      let n = length-append a b in
+      own-from kind x front (b ++ rest) at (at + length a) f p refl
+      (own-from kind y (front ++ a) rest (at + length a) end (f ∙ sym (append_assoc front a (b ++ rest)))
+      (simp length-append (omega arith)) (omega arith) k)
+
+  owns-from : {bs : List ℕ} → Owns bs → (front : List ℕ) (at : ℕ) → s ≡ front ++ bs → at ≡ length front → P (length s) → P at
+  owns-from (last kind {a = a} o) front at e p k =
+      let q : length s ≡ at + length a = ap length e ∙ length-append front a ∙ ap (λ (n : ℕ). n + length a) (sym p) in
+      own-from kind o front [] at (length s) (e ∙ ap (◌++◌ front) (sym (append-nil a))) p q k
+  owns-from (ahead kind {a = a} {b = b} o os) front at e p k =
+      own-from kind o front b at (at + length a) e p refl
+      (owns-from os (front ++ a) (at + length a) (e ∙ sym (append_assoc front a b)) (simp length-append (omega arith)) k)
+
+  pub owns-walked : Owns s → P (length s) → P 0
+  owns-walked os k = owns-from os [] 0 refl refl k

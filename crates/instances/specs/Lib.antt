@@ -1,2 +1,3 @@
 pub mod Example
 pub mod Shown
+pub mod Index
