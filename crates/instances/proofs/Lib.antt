@@ -5,3 +5,4 @@ pub mod OwnStretches
 pub mod Shown
 pub mod Few
 pub mod Index
+pub mod Reply

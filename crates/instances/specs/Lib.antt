@@ -1,3 +1,4 @@
 pub mod Example
 pub mod Shown
 pub mod Index
+pub mod Reply
