@@ -1,38 +1,39 @@
 -- Laws of a session and of a GroupAssign.
+use Rattle.std.specs.Prelude.{None, Some}
 use Prim.Native.Nat.{ℕ, suc, ◌+◌, ◌-◌, ◌≤◌, ◌<◌}
 use mathlib.Core.Path.{◌≡◌}
 use mathlib.Core.List.{List}
-use mathlib.Core.Bool.{true, false}
+use mathlib.Core.Bool.{true}
 use native.Mathlib.Omega.{arith}
 use borrow.Author.Tests.{eq-eqb, ne_eqb, lt-ltb, le-ltb, le-leb, lt-leb}
 use lib.ListN.{length, take, drop, set, drop_of_length-le}
 use Rattle.decode.specs.Read.{session_of}
 use Rattle.decode.specs.declared.Session.{Session}
-use Rattle.csmp.specs.declared.SessionId.{SessionId}
 use Rattle.csmp.specs.Tables.{session}
 use Rattle.tables.specs.Found.{found_in, bytes_in}
-use Rattle.protobuf.specs.declared.Bytes.TheVariants.{At, Absent as NoBytes}
 use Rattle.tables.proofs.TableLies.{lies, place-within}
 use Rattle.buffer.proofs.Tests.{head}
 use Rattle.state.specs.Groups.{held_pairs, no_pair, type_at}
 use Rattle.state.specs.declared.Assigned.{Assigned}
 use Rattle.state.specs.declared.Groups.{Groups}
 use Rattle.assign.specs.Assign.{session_id_of, with_session, place_in, place_of, with_pair, regrouped}
+use Rattle.protobuf.specs.Given.{spanning}
+use Rattle.buffer.specs.declared.text.Text.{Text}
 
 -- a session: its id lies in the value
 module _ (a : Assigned) (v : List ℕ) (m : Session) (e : m ≡ session_of v) where
-  pub id-inside : (start stop : ℕ) → m.id ≡ At start stop → (start ≤ stop) × (stop ≤ length v)
+  pub id-inside : (start stop : ℕ) → m.id ≡ spanning start stop → (start ≤ stop) × (stop ≤ length v)
   unfolding session_of
   id-inside start stop h =
       let c = (found_in session v).0.0 in
-      let k : bytes_in c ≡ At start stop = rw e at h in
+      let k : bytes_in c ≡ spanning start stop = rw e at h in
       place-within v c (lies session v).0 start stop k
 
-  pub session-none : m.id ≡ NoBytes → with_session a v ≡ a
+  pub session-none : m.id ≡ None → with_session a v ≡ a
   unfolding with_session
   session-none h = rw (rw e at h)
 
-  pub session-some : (start stop : ℕ) → m.id ≡ At start stop → (s : SessionId) → s ≡ session_id_of (take (stop - start) (drop start v))
+  pub session-some : (start stop : ℕ) → m.id ≡ spanning start stop → (s : Text 64) → s ≡ session_id_of (take (stop - start) (drop start v))
       → with_session a v ≡ record {
         groups = a.groups;
         in_session = true;
@@ -79,10 +80,10 @@ module _ (g : Groups) (kind id place : ℕ) (e : place ≡ place_of g kind) wher
   pair-added h = rw (← e, le-ltb place g.count h)
 
 module _ (g : Groups) (kind id place : ℕ) (e : place ≡ place_of g kind) where
-  pub regrouped-not : 8 ≤ place → record { needs_ninth = true; groups = g } ≡ regrouped g kind id
+  pub regrouped-not : 8 ≤ place → None ≡ regrouped g kind id
   unfolding regrouped
   regrouped-not h = rw (← e, le-leb 8 place h)
 
-  pub regrouped-pair : place < 8 → (h : Groups) → h ≡ with_pair g kind id → record { needs_ninth = false; groups = h } ≡ regrouped g kind id
+  pub regrouped-pair : place < 8 → (h : Groups) → h ≡ with_pair g kind id → Some h ≡ regrouped g kind id
   unfolding regrouped
   regrouped-pair l h f = rw (← e, lt-leb 8 place l, f)

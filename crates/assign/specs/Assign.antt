@@ -1,26 +1,24 @@
 -- What a session, a report and a GroupAssign assign, document 01, "Registration and reports", as document 02, Q-3 and Q-10, amends it.
-use Rattle.std.specs.Prelude.{ℕ, ◌+◌, List, [], ◌∷◌, true, false, eqb, leb, ltb, length, replicate, set}
-use Rattle.std.proofs.Math.Option.{Option, none, some}
-use Rattle.std.proofs.lemmas.List.Edits.{sets}
+use Rattle.std.specs.Prelude.{ℕ, ◌+◌, List, [], ◌∷◌, true, eqb, leb, ltb, set, None, Option, Some}
 use Rattle.buffer.specs.Pick.{pick}
 use Rattle.decode.specs.Read.{session_of}
 use Rattle.decode_report.specs.Report.{report_of}
-use Rattle.csmp.specs.declared.SessionId.{SessionId}
 use Rattle.protobuf.specs.Given.{bytes_given}
 use Rattle.state.specs.Groups.{held_pairs}
 use Rattle.state.specs.declared.Assigned.{Assigned}
 use Rattle.state.specs.declared.Groups.{Groups}
 use Rattle.state.specs.declared.Pair.{Pair}
-use Rattle.assign.specs.declared.Regrouped.{Regrouped}
+use Rattle.buffer.specs.Text.{text_of}
+use Rattle.buffer.specs.declared.text.Text.{Text}
 
 -- a session's id as the state holds it
-unfoldable pub session_id_of : List ℕ → SessionId
-session_id_of s = record { bytes = sets (replicate 64 0) 0 s; len = length s }
+abbrev pub session_id_of : List ℕ → Text 64
+session_id_of s = text_of 64 s
 
 -- 7: ignored is a session without id
 abbrev pub in_session : Assigned → Option (List ℕ) → Assigned
-in_session a none = a
-in_session a (some id) =
+in_session a None = a
+in_session a (Some id) =
     record {
       groups = a.groups;
       in_session = true;
@@ -61,10 +59,9 @@ with_pair g kind id =
       count = pick (ltb (place_of g kind) g.count) g.count (place_of g kind + 1);
     }
 
--- where 8 are held and none of that type, a ninth group would be needed, and they stay
-unfoldable pub regrouped : Groups → ℕ → ℕ → Regrouped
-regrouped g kind id =
-    pick (leb 8 (place_of g kind)) (record { needs_ninth = true; groups = g }) (record { needs_ninth = false; groups = with_pair g kind id })
+-- none where 8 are held and none of that type: a ninth group would be needed
+unfoldable pub regrouped : Groups → ℕ → ℕ → Option Groups
+regrouped g kind id = pick (leb 8 (place_of g kind)) None (Some (with_pair g kind id))
 
 abbrev pub holding : Assigned → Groups → Assigned
 holding a g =

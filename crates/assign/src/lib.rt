@@ -2,29 +2,11 @@
 #![tactic(auto)]
 
 ghost use Rattle.std.specs.Prelude.{◌<◌, ◌≡◌};
-ghost use Rattle.assign.specs.Assign.{session_id_of, with_session, with_report, place_of, with_pair, regrouped};
+ghost use Rattle.assign.specs.Assign.{with_session, with_report, place_of, with_pair, regrouped};
 
-use csmp::SessionId;
-use protobuf::Bytes;
+use buffer::Text;
+use protobuf::Span;
 use state::{Assigned, Groups, Pair};
-
-// The groups behind an assignment: as they were, if it would need a ninth.
-#[derive(Clone, Copy)]
-pub struct Regrouped {
-    pub needs_ninth: bool,
-    pub groups: Groups,
-}
-
-fn session_id_of(s: &[u8]) -> SessionId
-    ensures { result ≡ session_id_of s.now }
-{
-    let mut bytes = [0u8; 64];
-    buffer::copy(&mut bytes, s);
-    SessionId {
-        bytes,
-        len: s.len(),
-    }
-}
 
 // A session with an id; one without is ignored.
 pub fn with_session(assigned: Assigned, v: &[u8]) -> Assigned
@@ -32,14 +14,15 @@ pub fn with_session(assigned: Assigned, v: &[u8]) -> Assigned
 {
     let m = decode::read_session(v);
     let place = m.id;
-    let Bytes::At(start, end) = place else {
+    let Some(Span { start, end }) = place else {
         return assigned;
     };
-    let session = session_id_of(&v[start..end]);
-    let mut next = assigned;
-    next.in_session = true;
-    next.session = session;
-    next
+    let session = Text::of(&v[start..end]);
+    Assigned {
+        in_session: true,
+        session,
+        ..assigned
+    }
 }
 
 // A report: its interval and its list.
@@ -47,17 +30,11 @@ pub fn with_report(assigned: Assigned, v: &[u8]) -> Assigned
     ensures { result ≡ with_report assigned v.now }
 {
     let m = decode_report::read_report(v);
-    let groups = assigned.groups;
-    let session = assigned.session;
-    let interval = m.interval;
-    let ids = m.ids;
     Assigned {
-        groups,
-        in_session: assigned.in_session,
-        session,
         reporting: true,
-        interval,
-        ids,
+        interval: m.interval,
+        ids: m.ids,
+        ..assigned
     }
 }
 
@@ -65,17 +42,13 @@ pub fn with_report(assigned: Assigned, v: &[u8]) -> Assigned
 fn place_of(groups: Groups, kind: u32) -> usize
     ensures { result ≡ place_of groups kind }
 {
-    let list = groups.list;
-    let mut i = 0;
-    while i < 8 {
+    for (i, pair) in groups.list.iter().enumerate() {
         if groups.count <= i {
             return i;
         }
-        let pair = list[i];
         if pair.kind == kind {
             return i;
         }
-        i += 1;
     }
     8
 }
@@ -88,10 +61,7 @@ fn with_pair(groups: Groups, place: usize, kind: u32, id: u32) -> Groups
     let mut list = groups.list;
     list[place] = Pair { kind, id };
     if place < groups.count {
-        return Groups {
-            list,
-            count: groups.count,
-        };
+        return Groups { list, ..groups };
     }
     Groups {
         list,
@@ -99,20 +69,13 @@ fn with_pair(groups: Groups, place: usize, kind: u32, id: u32) -> Groups
     }
 }
 
-// One assignment.
-pub fn regroup(groups: Groups, kind: u32, id: u32) -> Regrouped
+// One assignment, unless it would need a ninth group.
+pub fn regroup(groups: Groups, kind: u32, id: u32) -> Option<Groups>
     ensures { result ≡ regrouped groups kind id }
 {
     let place = place_of(groups, kind);
     if 8 <= place {
-        return Regrouped {
-            needs_ninth: true,
-            groups,
-        };
+        return None;
     }
-    let groups = with_pair(groups, place, kind, id);
-    Regrouped {
-        needs_ninth: false,
-        groups,
-    }
+    Some(with_pair(groups, place, kind, id))
 }

@@ -38,12 +38,10 @@ fn datagram<W: Write>(
         state, answers, image, out, given, store, time, verdict, random,
     );
     let times = script::number(line, b" times=");
-    let mut i = 1;
-    while i < times {
+    for _ in 1..times {
         last = agent::datagram(
             state, answers, image, out, given, store, time, verdict, random,
         );
-        i += 1;
     }
     show(writer, last.outcome, last.len)?;
     Ok(last.state)
@@ -61,11 +59,9 @@ fn round<W: Write>(
     let first = agent::round(state, out, store, time, random);
     let mut last = first.answer;
     let times = script::number(line, b" times=");
-    let mut i = 1;
-    while i < times {
+    for _ in 1..times {
         let r = agent::round(state, out, store, time, random);
         last = r.answer;
-        i += 1;
     }
     show(writer, last.outcome, last.len)?;
     Ok(last.state)
@@ -82,10 +78,8 @@ fn report<W: Write>(
     let which = script::which(line);
     let mut last = agent::report(state, out, store, time, which);
     let times = script::number(line, b" times=");
-    let mut i = 1;
-    while i < times {
+    for _ in 1..times {
         last = agent::report(state, out, store, time, which);
-        i += 1;
     }
     show(writer, last.outcome, last.len)?;
     Ok(last.state)
@@ -102,10 +96,8 @@ fn due<W: Write>(
     let time = script::time(line);
     let mut last = agent::answer_due(state, answers, out, store, time);
     let times = script::number(line, b" times=");
-    let mut i = 1;
-    while i < times {
+    for _ in 1..times {
         last = agent::answer_due(state, answers, out, store, time);
-        i += 1;
     }
     show(writer, last.outcome, last.len)?;
     Ok(last.state)

@@ -1,5 +1,4 @@
 pub mod Tests
-pub mod Parts
 pub mod Puts
 pub mod Sames
 pub mod Stretches

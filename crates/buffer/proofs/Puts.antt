@@ -1,15 +1,14 @@
 -- Laws of stores into a list, and of appending.
-use Prim.Native.Nat.{ℕ, suc, ◌+◌, ◌-◌, ◌≤◌, ◌<◌}
-use mathlib.Core.Path.{◌≡◌, refl, ap, ◌∙◌}
+use Prim.Native.Nat.{ℕ, zero, suc, min, ◌+◌, ◌-◌, ◌≤◌, ◌<◌}
+use mathlib.Core.Path.{◌≡◌, refl, sym, ap, ◌∙◌}
 use mathlib.Core.List.{List, [], ◌∷◌, ◌++◌, append-nil}
 use mathlib.Core.Bool.{Bool, true, false}
 use native.Mathlib.Nat.{add-zero, add-suc, suc-add, le-add_right}
-use native.Mathlib.Numerals.{add-one}
 use native.Mathlib.Omega.{arith}
 use borrow.Author.Tests.{leb-true, leb-false}
 use lib.Dec.{leb}
-use lib.ListN.{length, take, drop, set, get_or, take-append-drop, length-append, length-set, length-drop, drop_of_length-le}
-use lib.Seq.{sets, length-sets, set_out, take-set-le, drop-set-add, drop-cons, take_all, sets-eq, take-append_seam}
+use lib.ListN.{length, take, drop, set, take-append-drop, length-append, length-set, length-drop, drop_of_length-le, length-take}
+use lib.Seq.{sets, length-sets, set_out, take-set-le, drop-set-add, take_all, sets-eq, take-append_seam}
 use Rattle.buffer.specs.Pick.{pick}
 use Rattle.buffer.specs.Stretch.{fits}
 use Rattle.buffer.proofs.Stretches.{fits-true, fits-false, room}
@@ -42,9 +41,18 @@ module _ {A : Type 0} where
       let none : drop (length l - at) (drop at l) ≡ [] = drop_of_length-le (drop at l) {i = length l - at} (simp length-drop (omega arith)) in
       rw (none, e, all, append-nil) (sets-part vs l at 0 ∙ rw add-zero)
 
-  -- one more of the source is stored
-  pub sets-next : (l s : List A) (i : ℕ) (d : A) → i < length s → sets l i (drop i s) ≡ sets (set l i (get_or s i d)) (i + 1) (drop (i + 1) s)
-  sets-next l s i d h = rw (add-one, drop-cons s i d)
+  -- stores from the front on leave what fits of the source, and then what stood behind
+  pub sets-front : (l s : List A) (n : ℕ) → n ≡ min (length s) (length l) → take n s ++ drop n l ≡ sets l 0 s
+  sets-front l s n h =
+      let e : sets l 0 (take n s) ≡ take n s ++ drop (0 + length (take n s)) l = sets-eq (take n s) l 0 (simp length-take (omega arith)) in
+      let k : 0 + length (take n s) ≡ n = simp length-take (omega arith) in
+      ap (λ (i : ℕ). take n s ++ drop i l) (sym k) ∙ sym e ∙ sym (more (length s - n) refl) ∙ ap (sets l 0) (take-append-drop n s)
+    where
+      more : (i : ℕ) → length s - n ≡ i → sets l 0 (take n s ++ drop n s) ≡ sets l 0 (take n s)
+      more zero e = rw (drop_of_length-le s {i = n} (omega arith), append-nil)
+      more (suc i) e =
+          let all : length l ≤ 0 + length (take n s) = simp length-take (omega arith) in
+          sets-append (take n s) l (drop n s) 0 ∙ sets-out (drop n s) (sets l 0 (take n s)) (0 + length (take n s)) (simp length-sets all)
 
 -- appending whole, and not at all
 pub put-fits : (out : List ℕ) (at : ℕ) (bs : List ℕ) → fits (length out) at (length bs) ≡ true → Put out at bs (sets out at bs) (at + length bs)

@@ -1,13 +1,13 @@
 -- Laws of the test whether two lists are the same.
-use Prim.Native.Nat.{ℕ, suc, ◌+◌, ◌≤◌, ◌<◌}
-use mathlib.Core.Path.{◌≡◌, refl, sym, ap, ap₂, ◌∙◌}
+use Prim.Native.Nat.{ℕ, suc}
+use mathlib.Core.Path.{◌≡◌, refl, ap, ap₂, ◌∙◌}
 use mathlib.Core.List.{List, [], ◌∷◌}
 use mathlib.Core.Bool.{Bool, true, false, ◌&&◌, false≢true}
-use native.Mathlib.Numerals.{add-one}
-use borrow.Author.Tests.{eq-eqb, ne_eqb, eqb-true}
+use borrow.Author.Tests.{eqb-true}
 use lib.Dec.{eqb}
-use lib.ListN.{length, get_or, drop, drop_of_length-le}
-use lib.Seq.{drop-cons}
+use lib.ListN.{length}
+use Rattle.std.specs.List.{fold, zip}
+use native.Mathlib.Omega.{arith}
 use Rattle.buffer.specs.Pick.{pick}
 use Rattle.buffer.specs.Same.{same_bytes}
 
@@ -23,28 +23,19 @@ same_length (x ∷ a) (y ∷ b) h = go (eqb x y) (same_length a b (λ e. h (ap s
     go true e = e
     go false e = refl
 
-module _ (a b : List ℕ) (i : ℕ) (h : i < length a) (k : i < length b) where
-  pub same_here : get_or a i 0 ≡ get_or b i 0 → same_bytes (drop i a) (drop i b) ≡ same_bytes (drop (i + 1) a) (drop (i + 1) b)
-  unfolding same_bytes
-  same_here e = rw (add-one, drop-cons a i 0 h, drop-cons b i 0 k, eq-eqb (get_or a i 0) (get_or b i 0) e)
-
-  pub same_not : (get_or a i 0 ≡ get_or b i 0 → ⊥) → same_bytes (drop i a) (drop i b) ≡ false
-  unfolding same_bytes
-  same_not e = rw (drop-cons a i 0 h, drop-cons b i 0 k, ne_eqb (get_or a i 0) (get_or b i 0) e)
-
--- one byte more: where it differs nothing is alike any more
-pub unlike : (t : Bool) {s x : Bool} → s ≡ (t && x) → x ≡ false → s ≡ false
-unlike true e h = e ∙ h
-unlike false e h = e
-
--- at the end, the whole is the same where all were alike
-pub alike_all : (t : Bool) {s x : Bool} → s ≡ (t && x) → x ≡ true → t ≡ s
-alike_all true e h = sym (e ∙ h)
-alike_all false e h = sym e
-
-pub same_end : (a b : List ℕ) (i : ℕ) → length a ≤ i → length b ≤ i → same_bytes (drop i a) (drop i b) ≡ true
+-- a fold that looks at every pair
+pub same_folded : (a b : List ℕ) (t : Bool) → length a ≡ length b → fold (λ s p. s && eqb p.0 p.1) t (zip a b) ≡ (t && same_bytes a b)
 unfolding same_bytes
-same_end a b i h k = rw (drop_of_length-le a {i = i} h, drop_of_length-le b {i = i} k)
+same_folded [] [] true h = refl
+same_folded [] [] false h = refl
+same_folded [] (y ∷ b) t h = absurd (omega (arith, h))
+same_folded (x ∷ a) [] t h = absurd (omega (arith, h))
+same_folded (x ∷ a) (y ∷ b) t h = same_folded a b (t && eqb x y) (omega (arith, h)) ∙ go t (eqb x y)
+  where
+    go : (t e : Bool) → (t && e && same_bytes a b) ≡ (t && pick e (same_bytes a b) false)
+    go true true = refl
+    go true false = refl
+    go false e = refl
 
 -- lists that the test finds the same are equal
 pub same-eq : (a b : List ℕ) → same_bytes a b ≡ true → a ≡ b

@@ -4,3 +4,4 @@ pub mod Put
 pub mod Same
 pub mod Stretch
 pub mod Walk
+pub mod Text

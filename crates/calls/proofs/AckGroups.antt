@@ -1,22 +1,20 @@
 -- What an acknowledgement's records, one by one, do to the groups held.
+use Rattle.state.specs.declared.Groups.{Groups}
+use Rattle.std.specs.Prelude.{None, Option, Some}
 use Prim.Native.Nat.{ℕ, ◌≤◌, ◌<◌}
 use mathlib.Core.Path.{◌≡◌, refl, sym, ap, ◌∙◌}
 use mathlib.Core.List.{List, [], ◌∷◌}
 use mathlib.Core.Bool.{Bool, true, false, true≢false}
-use mathlib.Core.Option.{Option, none, some}
 use native.Mathlib.Omega.{arith}
 use lib.Dec.{eqb, leb}
 use Rattle.assign.specs.Assign.{in_session, with_session, with_report, place_of, regrouped}
-use Rattle.assign.specs.declared.Regrouped.{Regrouped}
 use Rattle.buffer.specs.Pick.{pick}
-use Rattle.buffer.proofs.Tests.{pick-both, both, neither}
+use Rattle.buffer.proofs.Tests.{pick-both, both}
 use Rattle.decode.specs.Read.{session_of, group_of}
 use Rattle.learn.specs.Learn.{learnt_of, learnt_from}
 use Rattle.note.specs.Note.{nothing_learnt, marked, redirect_noted, session_noted, report_noted, with_regrouped, group_assigned, grouped, with_group, group_noted, validity_noted, signature_noted, noted}
 use Rattle.note.specs.declared.Learnt.{Learnt}
 use Rattle.protobuf.specs.Given.{bytes_given}
-use Rattle.protobuf.specs.declared.Number.{Number}
-use Rattle.protobuf.specs.declared.Number.TheVariants.{Given, Absent}
 use Rattle.schedule.specs.declared.Point.{Point}
 use Rattle.state.specs.Groups.{held_pairs, type_at}
 use Rattle.state.specs.declared.Assigned.{Assigned}
@@ -29,18 +27,18 @@ use Rattle.calls.proofs.AckSizes.{unlike, by-record, Learns, noted-sized}
 use Rattle.calls.proofs.Pairs.{with-grows, with-places, with-id}
 
 -- what a part of an acknowledgement does to the groups, where it can still be accepted after it
-pub record Moved (f : ℕ → Number → Number) (l m : Learnt) : Type 0 where
+pub record Moved (f : ℕ → Option ℕ → Option ℕ) (l m : Learnt) : Type 0 where
   pub readable : l.readable ≡ true
   pub room : l.needs_ninth ≡ false
   pub ids : (type : ℕ) → id_held (held_pairs m.assigned.groups) type ≡ f type (id_held (held_pairs l.assigned.groups) type)
   pub count : l.assigned.groups.count ≤ m.assigned.groups.count
   pub places : (i : ℕ) → i < l.assigned.groups.count → type_at m.assigned.groups i ≡ type_at l.assigned.groups i
 
-abbrev pub Moves : (ℕ → Number → Number) → Learnt → Learnt → Type 0
+abbrev pub Moves : (ℕ → Option ℕ → Option ℕ) → Learnt → Learnt → Type 0
 Moves f l m = m.readable ≡ true → m.needs_ninth ≡ false → Moved f l m
 
 -- a record of another kind leaves them
-abbrev pub still : ℕ → Number → Number
+abbrev pub still : ℕ → Option ℕ → Option ℕ
 still type was = was
 
 module _ (l : Learnt) where
@@ -54,14 +52,14 @@ module _ (l : Learnt) where
         places = λ i _. rw h;
       }
 
-  marked-moves : (f : ℕ → Number → Number) (m : Learnt) (b : Bool) → Moves f l m → Moves f l (marked m b)
+  marked-moves : (f : ℕ → Option ℕ → Option ℕ) (m : Learnt) (b : Bool) → Moves f l m → Moves f l (marked m b)
   marked-moves f m b h r e =
       let x = h (both m.readable b r).0 e in
       record { readable = x.readable; room = x.room; ids = x.ids; count = x.count; places = x.places }
 
 in-session-groups : (a : Assigned) (id : Option (List ℕ)) → (in_session a id).groups ≡ a.groups
-in-session-groups a none = refl
-in-session-groups a (some id) = refl
+in-session-groups a None = refl
+in-session-groups a (Some id) = refl
 
 module _ (d : Device) (l : Learnt) (v : List ℕ) where
   redirect-moves : Moves still l (redirect_noted d l v)
@@ -85,8 +83,8 @@ module _ (d : Device) (l : Learnt) (v : List ℕ) where
   signature-moves = unmoved l (signature_noted l v) (λ r. (both l.readable _ r).0) refl refl
 
 -- record 55
-abbrev pub assigns : ℕ → ℕ → ℕ → Number → Number
-assigns kind id type was = pick (eqb kind type) (Given id) was
+abbrev pub assigns : ℕ → ℕ → ℕ → Option ℕ → Option ℕ
+assigns kind id type was = pick (eqb kind type) (Some id) was
 
 module _ (d : Device) (l : Learnt) (h : Learns d l) where
   assigned-moves : (kind id : ℕ) → Moves (assigns kind id) l (group_assigned l kind id)
@@ -94,32 +92,32 @@ module _ (d : Device) (l : Learnt) (h : Learns d l) where
   assigned-moves kind id =
       pick-both (Moves (assigns kind id) l) (leb 8 l.group_assigns) _ _
       (λ _ r. absurd (true≢false (sym (both l.readable false r).1)))
-      (λ _. pick-both (λ (x : Regrouped). Moves (assigns kind id) l (with_regrouped l x)) (leb 8 (place_of l.assigned.groups kind)) _ _
-      (λ _ _ e. absurd (true≢false (neither l.needs_ninth true e).1))
+      (λ _. pick-both (λ (x : Option Groups). Moves (assigns kind id) l (with_regrouped l x)) (leb 8 (place_of l.assigned.groups kind)) _ _
+      (λ _ _ e. absurd (true≢false e))
       (λ f r e. let a = (h r).assigned in
       let g = l.assigned.groups in
       record {
         readable = r;
-        room = (neither l.needs_ninth false e).0;
+        room = e;
         ids = with-id g kind id a.list a.groups f;
         count = with-grows g kind id a.list a.groups f;
         places = with-places g kind id a.list a.groups f;
       }))
 
-  grouped-moves : (kind id : Number) → Moves (λ type was. id_assigned type was kind id) l (grouped l kind id)
-  grouped-moves Absent id = unmoved l l (λ r. r) refl refl
-  grouped-moves (Given kind) Absent = unmoved l l (λ r. r) refl refl
-  grouped-moves (Given kind) (Given id) = assigned-moves kind id
+  grouped-moves : (kind id : Option ℕ) → Moves (λ type was. id_assigned type was kind id) l (grouped l kind id)
+  grouped-moves None id = unmoved l l (λ r. r) refl refl
+  grouped-moves (Some kind) None = unmoved l l (λ r. r) refl refl
+  grouped-moves (Some kind) (Some id) = assigned-moves kind id
 
   group-moves : (v : List ℕ) → Moves (λ type was. id_assigned type was (group_of v).kind (group_of v).id) l (group_noted l v)
   unfolding group_noted with_group
   group-moves v = marked-moves l _ (with_group l (group_of v)) (group_of v).reading.readable (grouped-moves (group_of v).kind (group_of v).id)
 
 -- one record, by its type
-abbrev pub id_noted : ℕ → List ℕ → ℕ → Number → Number
+abbrev pub id_noted : ℕ → List ℕ → ℕ → Option ℕ → Option ℕ
 id_noted k v type was = pick (eqb k 55) (id_assigned type was (group_of v).kind (group_of v).id) was
 
-moves-as : (l m : Learnt) (f g : ℕ → Number → Number) → ((type : ℕ) (was : Number) → f type was ≡ g type was) → Moves f l m → Moves g l m
+moves-as : (l m : Learnt) (f g : ℕ → Option ℕ → Option ℕ) → ((type : ℕ) (was : Option ℕ) → f type was ≡ g type was) → Moves f l m → Moves g l m
 moves-as l m f g e h r n =
     let x = h r n in
     record { readable = x.readable; room = x.room; ids = λ type. x.ids type ∙ e type _; count = x.count; places = x.places }
@@ -155,7 +153,7 @@ module _ (d : Device) (time : Point) where
       record {
         readable = x.readable;
         room = x.room;
-        ids = λ type. y.ids type ∙ ap (λ (w : Number). id_after type w ts) (x.ids type);
+        ids = λ type. y.ids type ∙ ap (λ (w : Option ℕ). id_after type w ts) (x.ids type);
         count = omega arith;
         places = λ i q. y.places i (omega arith) ∙ x.places i q;
       }

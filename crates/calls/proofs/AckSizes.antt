@@ -1,15 +1,15 @@
 -- An acknowledgement that is taken keeps the sizes; redirects, which posts bring too.
+use Rattle.state.specs.declared.Groups.{Groups}
+use Rattle.std.specs.Prelude.{None, Option, Some}
 use Prim.Native.Nat.{ℕ, ◌≤◌}
 use mathlib.Core.Path.{◌≡◌}
 use mathlib.Core.List.{List, [], ◌∷◌}
 use mathlib.Core.Bool.{Bool, true, false, not, ◌&&◌}
 use mathlib.Core.Logic.{inr}
-use mathlib.Core.Option.{Option, none, some}
 use native.Mathlib.Omega.{arith}
 use borrow.Author.Tests.{not-true, leb-false, eqb-true}
 use lib.Dec.{eqb, leb}
-use Rattle.assign.specs.Assign.{session_id_of, in_session, with_session, with_report, place_of, regrouped}
-use Rattle.assign.specs.declared.Regrouped.{Regrouped}
+use Rattle.assign.specs.Assign.{in_session, with_session, with_report, place_of, regrouped}
 use Rattle.note.specs.Note.{nothing_learnt, marked, redirect_noted, session_noted, report_noted, with_regrouped, group_assigned, grouped, with_group, group_noted, validity_noted, signature_noted, noted}
 use Rattle.learn.specs.Learn.{learnt_of, learnt_from, padded_in}
 use Rattle.ack.specs.Take.{is_awaited, is_takable, accepted_by, taken_by, taken, acknowledged}
@@ -22,17 +22,12 @@ use Rattle.decode.specs.Read.{redirect_of, session_of, group_of, validity_of, si
 use Rattle.decode_report.specs.Report.{with_id, with_entry, with_entries, report_of}
 use Rattle.decimal.specs.Decimal.{id_of}
 use Rattle.decimal.specs.Ids.{no_ids, pushed as listed}
-use Rattle.decimal.specs.declared.Id.{Id}
-use Rattle.decimal.specs.declared.Id.TheVariants.{Given as Spells, Nothing}
 use Rattle.decimal.specs.declared.Ids.{Ids}
 use Rattle.post.specs.Judge.{badly_signed}
 use Rattle.protobuf.specs.Each.{IfAny}
 use Rattle.protobuf.specs.Given.{bytes_given}
-use Rattle.protobuf.specs.declared.Number.{Number}
-use Rattle.protobuf.specs.declared.Number.TheVariants.{Given, Absent as NoNumber}
 use Rattle.registration.specs.Redirect.{restarted, is_set, follow, url_in, redirected}
 use Rattle.schedule.specs.declared.Point.{Point}
-use Rattle.state.specs.Setup.{url_of}
 use Rattle.state.specs.declared.Assigned.{Assigned}
 use Rattle.state.specs.declared.Device.{Device}
 use Rattle.state.specs.declared.Registration.{Registration}
@@ -46,10 +41,10 @@ use Rattle.calls.specs.Made.{DeviceSized, AssignedSized, RegistrationSized, Size
 module _ (d : Device) (r : Registration) (k : DeviceSized d) (s : RegistrationSized d r) where
   follow-sized : (url : Option (List ℕ)) (immediate : Bool) → IfAny (ShortText 128) url
       → RegistrationSized d (follow d r url immediate)
-  unfolding follow restarted url_of
-  follow-sized none immediate h = s
-  follow-sized (some []) immediate h = s
-  follow-sized (some (b ∷ bs)) immediate h =
+  unfolding follow restarted
+  follow-sized None immediate h = s
+  follow-sized (Some []) immediate h = s
+  follow-sized (Some (b ∷ bs)) immediate h =
       let t = text-held 128 (b ∷ bs) h in
       record { url = (omega arith, t.0); text = inr t.1; interval = (omega arith, k.low.1) }
 
@@ -62,9 +57,8 @@ module _ (d : Device) (r : Registration) (k : DeviceSized d) (s : RegistrationSi
 
 -- record 7, likewise
 in-session-sized : (a : Assigned) → AssignedSized a → (id : Option (List ℕ)) → IfAny (ShortText 64) id → AssignedSized (in_session a id)
-unfolding session_id_of
-in-session-sized a s none h = s
-in-session-sized a s (some id) h =
+in-session-sized a s None h = s
+in-session-sized a s (Some id) h =
     let t = text-held 64 id h in
     record { list = s.list; groups = s.groups; types = s.types; session = t.0; text = t.1; ids = s.ids; each = s.each }
 
@@ -84,10 +78,10 @@ few-pushed ids x h =
     pick-both Few (leb 32 ids.count) _ _ (λ e. h)
     (λ e. let l = leb-false 32 ids.count e in omega arith)
 
-few-id : (ids : Ids) (i : Id) → Few ids → Few (with_id ids i)
+few-id : (ids : Ids) (i : Option ℕ) → Few ids → Few (with_id ids i)
 unfolding with_id
-few-id ids (Spells x) h = few-pushed ids x h
-few-id ids Nothing h = h
+few-id ids (Some x) h = few-pushed ids x h
+few-id ids None h = h
 
 few-entries : (ids : Ids) (texts : List (List ℕ)) → Few ids → Few (with_entries ids texts)
 unfolding with_entries with_entry
@@ -169,7 +163,7 @@ module _ (d : Device) (k : DeviceSized d) where
   unfolding group_assigned regrouped
   assigned-sized l kind id h =
       pick-both (Learns d) (leb 8 l.group_assigns) _ _ (λ _. marked-sized l false h)
-      (λ _. pick-both (λ (r : Regrouped). Learns d (with_regrouped l r)) (leb 8 (place_of l.assigned.groups kind)) _ _
+      (λ _. pick-both (λ (r : Option Groups). Learns d (with_regrouped l r)) (leb 8 (place_of l.assigned.groups kind)) _ _
       (λ _ e. let s = h e in record { registration = s.registration; assigned = s.assigned })
       (λ f e. let s = h e in
       let a = s.assigned in
@@ -188,10 +182,10 @@ module _ (d : Device) (k : DeviceSized d) where
             };
       }))
 
-  grouped-sized : (l : Learnt) (kind id : Number) → Learns d l → Learns d (grouped l kind id)
-  grouped-sized l NoNumber id h = h
-  grouped-sized l (Given kind) NoNumber h = h
-  grouped-sized l (Given kind) (Given id) h = assigned-sized l kind id h
+  grouped-sized : (l : Learnt) (kind id : Option ℕ) → Learns d l → Learns d (grouped l kind id)
+  grouped-sized l None id h = h
+  grouped-sized l (Some kind) None h = h
+  grouped-sized l (Some kind) (Some id) h = assigned-sized l kind id h
 
   group-noted : (l : Learnt) (v : List ℕ) → Learns d l → Learns d (group_noted l v)
   unfolding group_noted with_group

@@ -1,4 +1,5 @@
 -- What `specs/Answers.antt` states.
+use Rattle.std.specs.Prelude.{Result, Ok, Err, None, Option, Some}
 use Prim.Native.Nat.{ℕ, zero, suc, ◌≤◌, ◌<◌}
 use mathlib.Core.Path.{◌≡◌, refl, sym, ap, subst, ◌∙◌}
 use mathlib.Core.List.{List, [], ◌∷◌}
@@ -13,13 +14,12 @@ use Rattle.class.specs.Class.{class_of}
 use Rattle.class.specs.declared.Class.{Class}
 use Rattle.class.specs.declared.Class.TheVariants.{Request, Acknowledgement, Rejected, Ignored}
 use Rattle.coap.specs.Frame.{frame_of}
-use Rattle.coap.specs.declared.Datagram.{Datagram}
-use Rattle.coap.specs.declared.Datagram.TheVariants.{Frame as Whole, Malformed, Foreign}
+use Rattle.coap.specs.declared.FrameError.{FrameError}
+use Rattle.coap.specs.declared.FrameError.TheVariants.{Malformed, Foreign}
 use Rattle.coap.specs.declared.Frame.{Frame}
 use Rattle.decimal.specs.Ids.{no_ids, held as listed}
 use Rattle.outgoing.specs.Sent.{registration_sent, report_sent}
 use Rattle.outgoing.specs.declared.Report.{Report}
-use Rattle.post.specs.declared.Judgement.TheVariants.{Run}
 use Rattle.refusal.specs.Refusal.{own_refusal}
 use Rattle.registration.specs.Round.{id_taken, round_taken}
 use Rattle.request.proofs.Judged.{asked-records}
@@ -44,7 +44,7 @@ use Rattle.waiting.proofs.Bytes.{kept-length}
 use Rattle.waiting.proofs.Laws.{due-cases}
 use Rattle.waiting.proofs.Theorems.{keeps-bytes}
 use Rattle.waiting.specs.Sized.{WaitingSized}
-use Rattle.waiting.specs.Waiting.{is_full, held_in, kept, kept_bytes, without, due_of}
+use Rattle.waiting.specs.Waiting.{is_full, held_in, kept, kept_bytes, without, due_of, left_by}
 use Rattle.waiting.specs.declared.Due.{Due}
 use Rattle.calls.specs.Answers.{Lent, set, called, rounded, reported, booted, padding, due, FromRun, AnswersHeld, ListMoves}
 use Rattle.calls.specs.Boot.{boot_of}
@@ -110,9 +110,10 @@ without-place P (d ∷ ds) zero j h a b = subst P (sym (get_or-append ds (d ∷ 
 without-place P (d ∷ ds) (suc i) zero h a b = a
 without-place P (d ∷ ds) (suc i) (suc j) h a b = without-place P ds i j (omega arith) a b
 
-left-held : (w : Waiting) (time : Point) (answers : List ℕ) → WaitingSized w → Held w answers → Held (due_of w time).left answers
+left-held : (w : Waiting) (time : Point) (answers : List ℕ) → WaitingSized w → Held w answers → Held (left_by w (due_of w time)) answers
+unfolding left_by
 left-held w time answers k h =
-    due-cases w time (λ (d : Due). Held d.left answers) (λ _. h) (λ _. h)
+    due-cases w time (λ (d : Option Due). Held (left_by w d) answers) (λ _. h) (λ _. h)
     (λ p _ j l.
     let z = k.count in
     without-place (Runs answers) w.list _ j (omega (arith, k.list)) (h j (omega arith)) (h (suc j) (omega arith)))
@@ -132,7 +133,7 @@ module _ (s : State) (image : List ℕ) (c : Call) (k : WaitingSized s.waiting) 
   Leaves e = Holding e.state.waiting e.answers
 
   -- the responses of a POST
-  body-runs : (p : List ℕ) → judged_at s.device s.assigned.groups p c.time c.verdict ≡ Run → FromRun (post_in s image c p).body
+  body-runs : (p : List ℕ) → judged_at s.device s.assigned.groups p c.time c.verdict ≡ Ok tt → FromRun (post_in s image c p).body
   unfolding posted posted_as
   body-runs p j = rw j (s.device, world_in s image, records p, refl)
 
@@ -166,11 +167,11 @@ module _ (s : State) (image : List ℕ) (c : Call) (k : WaitingSized s.waiting) 
   classed-holds f Rejected = h
   classed-holds f Ignored = h
 
-  received-holds : (m : Datagram) → Leaves (received s image c m)
+  received-holds : (m : Result Frame FrameError) → Leaves (received s image c m)
   unfolding received
-  received-holds (Whole f) = classed-holds f (class_of f.kind f.code)
-  received-holds (Malformed kind id) = h
-  received-holds Foreign = h
+  received-holds (Ok f) = classed-holds f (class_of f.kind f.code)
+  received-holds (Err (Malformed kind id)) = h
+  received-holds (Err Foreign) = h
 
   datagram-holds : Leaves (datagram_of s image c)
   unfolding datagram_of
@@ -207,13 +208,14 @@ dispatched-holds s answers url (b ∷ bs) h = h
 
 due-holds : (s : State) (answers : List ℕ) → WaitingSized s.waiting → Held s.waiting answers → (out : ℕ) (store : List ℕ) (time : Point)
     → Remains answers (answer_due s answers out store time)
-unfolding answer_due dispatch_of
+unfolding answer_due dispatch_of left_by
 due-holds s answers k h out store time =
-    let w = due_of s.waiting time in
     pick-both (Remains answers) (eqb (own_refusal out store true 0) 0) _ _
-    (λ _. pick-both (Remains answers) w.is _ _
-    (λ _. dispatched-holds (with_waiting s w.left) answers _ _ (left-held s.waiting time answers k h)) (λ _. h))
-    (λ _. h)
+    (λ _. go (due_of s.waiting time) (left-held s.waiting time answers k h)) (λ _. h)
+  where
+    go : (d : Option Due) → Held (left_by s.waiting d) answers → Remains answers (dispatch_of s answers store time d)
+    go None w = h
+    go (Some d) w = dispatched-holds (with_waiting s d.left) answers _ _ w
 
 -- so it is for every state and the buffer that the calls left
 lent-sized : {s : State} {answers : List ℕ} → Lent s answers → WaitingSized s.waiting
@@ -249,10 +251,10 @@ dispatched-leaves s url [] = refl
 dispatched-leaves s url (b ∷ bs) = refl
 
 dispatch-left : (s : State) (answers store : List ℕ) (time : Point)
-    → (dispatch_of s answers store time (due_of s.waiting time)).state.waiting ≡ (due_of s.waiting time).left
-unfolding dispatch_of
+    → (dispatch_of s answers store time (due_of s.waiting time)).state.waiting ≡ left_by s.waiting (due_of s.waiting time)
+unfolding dispatch_of left_by
 dispatch-left s answers store time =
-    due-cases s.waiting time (λ (d : Due). (dispatch_of s answers store time d).state.waiting ≡ d.left) (λ _. refl) (λ _. refl)
+    due-cases s.waiting time (λ (d : Option Due). (dispatch_of s answers store time d).state.waiting ≡ left_by s.waiting d) (λ _. refl) (λ _. refl)
     (λ _ _. dispatched-leaves _ _ _)
 
 taken-leaves : (s : State) (id : ℕ) (p : List ℕ) (time : Point) (verdict : ℕ) → (acknowledged s id p time verdict).waiting ≡ s.waiting

@@ -1,29 +1,28 @@
 -- Groups by type: an acknowledgement, and the other calls.
+use Rattle.std.specs.Prelude.{None, Option, Some, Result, Ok, Err}
 use Prim.Native.Nat.{ℕ}
 use mathlib.Core.Path.{◌≡◌, refl, sym, ◌∙◌}
 use mathlib.Core.List.{List, [], ◌∷◌}
 use mathlib.Core.Bool.{Bool, true, false, not, ◌&&◌, true≢false}
 use mathlib.Core.Logic.{◌⊎◌, inl, inr}
-use mathlib.Core.Option.{Option, none, some}
 use lib.Dec.{eqb, leb}
 use lib.ListN.{drop}
 use Rattle.ack.specs.Take.{is_awaited, accepted_by, taken, acknowledged}
+use Rattle.assign.specs.Assign.{regrouped}
 use Rattle.buffer.proofs.Tests.{split, pick-both}
 use Rattle.class.specs.Class.{class_of}
 use Rattle.class.specs.declared.Class.{Class}
 use Rattle.class.specs.declared.Class.TheVariants.{Request, Acknowledgement, Rejected, Ignored}
 use Rattle.coap.specs.Frame.{frame_of}
-use Rattle.coap.specs.declared.Datagram.{Datagram}
-use Rattle.coap.specs.declared.Datagram.TheVariants.{Frame as Whole, Malformed, Foreign}
+use Rattle.coap.specs.declared.FrameError.{FrameError}
+use Rattle.coap.specs.declared.FrameError.TheVariants.{Malformed, Foreign}
 use Rattle.coap.specs.declared.Frame.{Frame}
 use Rattle.decimal.specs.Ids.{held}
 use Rattle.decode.specs.Read.{group_of}
 use Rattle.learn.specs.Learn.{learnt_of, learnt_from, padded_in}
-use Rattle.note.specs.Note.{nothing_learnt, redirect_noted, session_noted, report_noted, group_assigned, grouped, with_group, group_noted, validity_noted, signature_noted, noted}
+use Rattle.note.specs.Note.{nothing_learnt, redirect_noted, session_noted, report_noted, with_regrouped, group_assigned, grouped, with_group, group_noted, validity_noted, signature_noted, noted}
 use Rattle.note.specs.declared.Learnt.{Learnt}
 use Rattle.outgoing.specs.Sent.{registration_sent, report_sent}
-use Rattle.protobuf.specs.declared.Number.{Number}
-use Rattle.protobuf.specs.declared.Number.TheVariants.{Given, Absent}
 use Rattle.refusal.specs.Refusal.{own_refusal}
 use Rattle.registration.specs.Redirect.{restarted, follow, url_in, redirected}
 use Rattle.registration.specs.Round.{id_taken, round_taken}
@@ -34,6 +33,7 @@ use Rattle.schedule.specs.declared.Point.{Point}
 use Rattle.state.specs.Groups.{held_pairs}
 use Rattle.state.specs.declared.Assigned.{Assigned}
 use Rattle.state.specs.declared.Device.{Device}
+use Rattle.state.specs.declared.Groups.{Groups}
 use Rattle.state.specs.declared.Registration.{Registration}
 use Rattle.state.specs.declared.State.{State}
 use Rattle.state.specs.declared.Waiting.{Waiting}
@@ -57,16 +57,20 @@ Unaccepted l = l.registration.accepted ≡ false
 module _ (d : Device) (time : Point) where
   follow-unaccepted : (r : Registration) (url : Option (List ℕ)) (immediate : Bool) → r.accepted ≡ false → (follow d r url immediate).accepted ≡ false
   unfolding follow restarted
-  follow-unaccepted r none immediate h = h
-  follow-unaccepted r (some []) immediate h = h
-  follow-unaccepted r (some (b ∷ bs)) immediate h = refl
+  follow-unaccepted r None immediate h = h
+  follow-unaccepted r (Some []) immediate h = h
+  follow-unaccepted r (Some (b ∷ bs)) immediate h = refl
 
-  grouped-unaccepted : (l : Learnt) (kind id : Number) → Unaccepted l → Unaccepted (grouped l kind id)
+  regrouped-unaccepted : (l : Learnt) (groups : Option Groups) → Unaccepted l → Unaccepted (with_regrouped l groups)
+  regrouped-unaccepted l None h = h
+  regrouped-unaccepted l (Some groups) h = h
+
+  grouped-unaccepted : (l : Learnt) (kind id : Option ℕ) → Unaccepted l → Unaccepted (grouped l kind id)
   unfolding group_assigned
-  grouped-unaccepted l Absent id h = h
-  grouped-unaccepted l (Given kind) Absent h = h
-  grouped-unaccepted l (Given kind) (Given id) h =
-      pick-both Unaccepted (leb 8 l.group_assigns) _ _ (λ _. h) (λ _. h)
+  grouped-unaccepted l None id h = h
+  grouped-unaccepted l (Some kind) None h = h
+  grouped-unaccepted l (Some kind) (Some id) h =
+      pick-both Unaccepted (leb 8 l.group_assigns) _ _ (λ _. h) (λ _. regrouped-unaccepted l (regrouped l.assigned.groups kind id) h)
 
   noted-unaccepted : (l : Learnt) (k : ℕ) (v : List ℕ) → Unaccepted l → Unaccepted (noted d time l k v)
   unfolding redirect_noted redirected session_noted report_noted group_noted with_group validity_noted signature_noted
@@ -147,10 +151,10 @@ module _ (s : State) (image : List ℕ) (c : Call) where
   abbrev Assigns : State → Type 0
   Assigns x =
       (x.assigned ≡ s.assigned)
-      ⊎ ((f : Frame) × (frame_of c.bytes ≡ Whole f) × (class_of f.kind f.code ≡ Acknowledgement)
+      ⊎ ((f : Frame) × (frame_of c.bytes ≡ Ok f) × (class_of f.kind f.code ≡ Acknowledgement)
       × (x ≡ acknowledged s f.id (drop f.payload c.bytes) c.time c.verdict))
 
-  classed-assigns : (f : Frame) → frame_of c.bytes ≡ Whole f → (k : Class) → class_of f.kind f.code ≡ k
+  classed-assigns : (f : Frame) → frame_of c.bytes ≡ Ok f → (k : Class) → class_of f.kind f.code ≡ k
       → Assigns (classed s image c f k).state
   unfolding classed
   classed-assigns f e Request h = inl (requested-leaves (λ (x : State). x.assigned) s image (λ w x. refl) c f)
@@ -158,11 +162,11 @@ module _ (s : State) (image : List ℕ) (c : Call) where
   classed-assigns f e Rejected h = inl refl
   classed-assigns f e Ignored h = inl refl
 
-  received-assigns : (m : Datagram) → frame_of c.bytes ≡ m → Assigns (received s image c m).state
+  received-assigns : (m : Result Frame FrameError) → frame_of c.bytes ≡ m → Assigns (received s image c m).state
   unfolding received
-  received-assigns (Whole f) e = classed-assigns f e (class_of f.kind f.code) refl
-  received-assigns (Malformed kind id) e = inl refl
-  received-assigns Foreign e = inl refl
+  received-assigns (Ok f) e = classed-assigns f e (class_of f.kind f.code) refl
+  received-assigns (Err (Malformed kind id)) e = inl refl
+  received-assigns (Err Foreign) e = inl refl
 
   called : Assigns (datagram_of s image c).state
   unfolding datagram_of

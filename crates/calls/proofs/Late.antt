@@ -1,4 +1,6 @@
 -- What a request leaves, by its cases: one that asks for no delay, and one that does.
+use Rattle.std.specs.Prelude.{Err, Ok}
+use Rattle.post.specs.Judge.{Judgement}
 use Prim.Native.Nat.{ℕ}
 use mathlib.Core.Path.{◌≡◌, refl}
 use mathlib.Core.List.{List, []}
@@ -6,8 +8,6 @@ use mathlib.Core.Bool.{Bool, true, false}
 use lib.ListN.{drop}
 use Rattle.buffer.proofs.Tests.{pick-both}
 use Rattle.coap.specs.declared.Frame.{Frame}
-use Rattle.post.specs.declared.Judgement.{Judgement}
-use Rattle.post.specs.declared.Judgement.TheVariants.{Error as Erring, Run}
 use Rattle.request.specs.Request.{request_of}
 use Rattle.request.specs.declared.Asks.{Asks}
 use Rattle.request.specs.declared.Asks.TheVariants.{Error, Post as Posting, Index, Record, Records}
@@ -41,11 +41,11 @@ module _ (P : Effect → Type 0) (s : State) (image : List ℕ) (c : Call) (f : 
   -- none, or keeps its responses
   pub record Later (a : Asks) : Type 0 where
     pub failed : (code : ℕ) → a ≡ Error code → P (silent 0 s image c)
-    pub refused : a ≡ Posting → (code : ℕ) → judgement ≡ Erring code → P (silent 0 s image c)
-    pub shut : a ≡ Posting → judgement ≡ Run → answered ≡ true → is_full s.waiting ≡ true → P (silent 0 s image c)
-    pub runs : a ≡ Posting → judgement ≡ Run → answered ≡ false
+    pub refused : a ≡ Posting → (code : ℕ) → judgement ≡ Err code → P (silent 0 s image c)
+    pub shut : a ≡ Posting → judgement ≡ Ok tt → answered ≡ true → is_full s.waiting ≡ true → P (silent 0 s image c)
+    pub runs : a ≡ Posting → judgement ≡ Ok tt → answered ≡ false
         → P ran_alone
-    pub responds : a ≡ Posting → judgement ≡ Run → answered ≡ true → is_full s.waiting ≡ false
+    pub responds : a ≡ Posting → judgement ≡ Ok tt → answered ≡ true → is_full s.waiting ≡ false
         → P ran_kept
     pub index : a ≡ Index → P (keeps s image c f AnIndex [] false)
     pub one : (id : ℕ) → a ≡ Record id → P (keeps s image c f (ARecord id) [] false)
@@ -53,8 +53,8 @@ module _ (P : Effect → Type 0) (s : State) (image : List ℕ) (c : Call) (f : 
 
   posted-by : (j : Judgement) → judgement ≡ j → Later Posting → P (posted_later s image c f payload j)
   unfolding posted_later ran_later
-  posted-by (Erring code) e l = l.refused refl code e
-  posted-by Run e l =
+  posted-by (Err code) e l = l.refused refl code e
+  posted-by (Ok tt) e l =
       pick-both P answered _ _
       (λ a. pick-both P (is_full s.waiting) _ _ (λ y. l.shut refl e a y) (λ n. l.responds refl e a n))
       (λ n. l.runs refl e n)
@@ -76,7 +76,7 @@ module _ (P : Effect → Type 0) (s : State) (image : List ℕ) (c : Call) (f : 
 
   -- where silence is as good as any
   pub silently : P (silent 0 s image c)
-      → (judgement ≡ Run → P ran_alone) → (judgement ≡ Run → P ran_kept)
+      → (judgement ≡ Ok tt → P ran_alone) → (judgement ≡ Ok tt → P ran_kept)
       → P (keeps s image c f AnIndex [] false) → ((id : ℕ) → P (keeps s image c f (ARecord id) [] false))
       → ((request_of c.bytes f).asks ≡ Records → P (keeps s image c f SomeRecords (ids_from c.bytes f.options) false))
       → Later (request_of c.bytes f).asks

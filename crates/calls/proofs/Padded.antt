@@ -1,4 +1,5 @@
 -- What `specs/Padded.antt` states.
+use Rattle.std.specs.Prelude.{Result, Ok, Err}
 use Prim.Native.Nat.{ℕ}
 use mathlib.Core.Path.{◌≡◌, refl, sym}
 use mathlib.Core.List.{List}
@@ -12,14 +13,12 @@ use Rattle.class.specs.Class.{class_of}
 use Rattle.class.specs.declared.Class.{Class}
 use Rattle.class.specs.declared.Class.TheVariants.{Request, Acknowledgement, Rejected, Ignored}
 use Rattle.coap.specs.Frame.{frame_of}
-use Rattle.coap.specs.declared.Datagram.{Datagram}
-use Rattle.coap.specs.declared.Datagram.TheVariants.{Frame as Whole, Malformed, Foreign}
+use Rattle.coap.specs.declared.FrameError.{FrameError}
+use Rattle.coap.specs.declared.FrameError.TheVariants.{Malformed, Foreign}
 use Rattle.coap.specs.declared.Frame.{Frame}
 use Rattle.outgoing.specs.Sent.{registration_sent, report_sent}
 use Rattle.learn.specs.Learn.{learnt_from}
-use Rattle.post.specs.Judge.{looked_at, padded_in, judged, judged_as}
-use Rattle.post.specs.declared.Judgement.{Judgement}
-use Rattle.post.specs.declared.Judgement.TheVariants.{Error as Erring, Run}
+use Rattle.post.specs.Judge.{looked_at, padded_in, judged, judged_as, Judgement}
 use Rattle.refusal.specs.Refusal.{own_refusal}
 use Rattle.registration.specs.Round.{id_taken, round_taken}
 use Rattle.request.specs.Request.{request_of}
@@ -42,8 +41,8 @@ use Rattle.calls.proofs.Late.{requested-by, silently}
 -- what a judgement leads to does not go by padding
 same_post : (d : Device) (w : World) (p : List ℕ) (a b : Bool) (j : Judgement) → SamePost (posted_as d w p a j) (posted_as d w p b j)
 unfolding posted_as
-same_post d w p a b (Erring code) = record { code = refl; world = refl; body = refl }
-same_post d w p a b Run = record { code = refl; world = refl; body = refl }
+same_post d w p a b (Err code) = record { code = refl; world = refl; body = refl }
+same_post d w p a b (Ok tt) = record { code = refl; world = refl; body = refl }
 
 pub readings-stand : ReadingsStand
 unfolding posted judged_at judged_as posted_before acknowledged
@@ -72,22 +71,22 @@ module _ (s : State) (image : List ℕ) (c : Call) where
   classed-keeps f Rejected = refl
   classed-keeps f Ignored = refl
 
-  received-keeps : (m : Datagram) → Device-kept (received s image c m)
+  received-keeps : (m : Result Frame FrameError) → Device-kept (received s image c m)
   unfolding received
-  received-keeps (Whole f) = classed-keeps f (class_of f.kind f.code)
-  received-keeps (Malformed kind id) = refl
-  received-keeps Foreign = refl
+  received-keeps (Ok f) = classed-keeps f (class_of f.kind f.code)
+  received-keeps (Err (Malformed kind id)) = refl
+  received-keeps (Err Foreign) = refl
 
   called : Device-kept (datagram_of s image c)
   unfolding datagram_of
   called = pick-both Device-kept (eqb (refusal s image c) 0) _ _ (λ _. received-keeps (frame_of c.bytes)) (λ _. refl)
 
 -- refused, it is never answered
-posted-never : (d : Device) (w : World) (p : List ℕ) (on b : Bool) (j : Judgement) → on ≡ true → (posted_as d w p b (pick (on && b) (Erring 128) j)).padded ≡ false
+posted-never : (d : Device) (w : World) (p : List ℕ) (on b : Bool) (j : Judgement) → on ≡ true → (posted_as d w p b (pick (on && b) (Err 128) j)).padded ≡ false
 unfolding posted_as
 posted-never d w p true true j h = refl
-posted-never d w p true false (Erring code) h = refl
-posted-never d w p true false Run h = refl
+posted-never d w p true false (Err code) h = refl
+posted-never d w p true false (Ok tt) h = refl
 posted-never d w p false b j h = absurd (true≢false (sym h))
 
 -- and changes nothing
@@ -126,11 +125,11 @@ module _ (s : State) (image : List ℕ) (c : Call) (h : s.device.refuse_padding 
   classed-never f Rejected = refl
   classed-never f Ignored = refl
 
-  received-never : (m : Datagram) → Never (received s image c m)
+  received-never : (m : Result Frame FrameError) → Never (received s image c m)
   unfolding received
-  received-never (Whole f) = classed-never f (class_of f.kind f.code)
-  received-never (Malformed kind id) = refl
-  received-never Foreign = refl
+  received-never (Ok f) = classed-never f (class_of f.kind f.code)
+  received-never (Err (Malformed kind id)) = refl
+  received-never (Err Foreign) = refl
 
   never : Never (datagram_of s image c)
   unfolding datagram_of

@@ -1,4 +1,5 @@
 -- One assignment: what it leaves of the pairs held.
+use Rattle.std.specs.Prelude.{None, Option, Some}
 use Prim.Native.Nat.{ℕ, zero, suc, ◌+◌, ◌≤◌, ◌<◌}
 use mathlib.Core.Path.{◌≡◌, refl, sym, ap, subst, ◌∙◌}
 use mathlib.Core.List.{List, [], ◌∷◌}
@@ -11,8 +12,6 @@ use lib.Seq.{get_or-set_same, get_or-set_other, get_or-take}
 use Rattle.assign.specs.Assign.{place_in, place_of, with_pair}
 use Rattle.buffer.specs.Pick.{pick}
 use Rattle.buffer.proofs.Tests.{split, pick-both}
-use Rattle.protobuf.specs.declared.Number.{Number}
-use Rattle.protobuf.specs.declared.Number.TheVariants.{Given, Absent}
 use Rattle.state.specs.Groups.{no_pair, held_pairs, type_at, TypesDiffer}
 use Rattle.state.specs.declared.Groups.{Groups}
 use Rattle.state.specs.declared.Pair.{Pair}
@@ -66,11 +65,11 @@ module _ (kind id type : ℕ) where
   pair = record { kind = kind; id = id }
 
   -- the pair itself, and one of another type before it
-  id-here : (q : Pair) (was : Number) → q.kind ≡ kind → pick (eqb kind type) (Given id) was ≡ pick (eqb kind type) (Given id) (pick (eqb q.kind type) (Given q.id) was)
+  id-here : (q : Pair) (was : Option ℕ) → q.kind ≡ kind → pick (eqb kind type) (Some id) was ≡ pick (eqb kind type) (Some id) (pick (eqb q.kind type) (Some q.id) was)
   id-here q was e = split (eqb kind type) (λ t. rw t) (λ t. rw (e, t))
 
-  id-behind : (q : Pair) (was : Number) → (q.kind ≡ kind → ⊥)
-      → pick (eqb q.kind type) (Given q.id) (pick (eqb kind type) (Given id) was) ≡ pick (eqb kind type) (Given id) (pick (eqb q.kind type) (Given q.id) was)
+  id-behind : (q : Pair) (was : Option ℕ) → (q.kind ≡ kind → ⊥)
+      → pick (eqb q.kind type) (Some q.id) (pick (eqb kind type) (Some id) was) ≡ pick (eqb kind type) (Some id) (pick (eqb q.kind type) (Some q.id) was)
   id-behind q was n =
       split (eqb kind type)
       (λ t. rw (t, ne_eqb q.kind type (λ e. n (e ∙ sym (eqb-true kind type t)))))
@@ -78,7 +77,7 @@ module _ (kind id type : ℕ) where
 
   id-with : (l : List Pair) (n : ℕ) → place_in (take n l) kind < length l
       → id_held (take (pick (ltb (place_in (take n l) kind) n) n (place_in (take n l) kind + 1)) (set l (place_in (take n l) kind) pair)) type
-      ≡ pick (eqb kind type) (Given id) (id_held (take n l) type)
+      ≡ pick (eqb kind type) (Some id) (id_held (take n l) type)
   unfolding place_in id_held
   id-with [] n h = absurd (omega arith)
   id-with (p ∷ ps) zero h = refl
@@ -152,7 +151,7 @@ module _ (g : Groups) (kind id : ℕ) (pairs : length g.list ≡ 8) (few : g.cou
       let l = was-held j k m in
       d i j h l (sym (with-places i (omega arith)) ∙ e ∙ with-other j m))
 
-  pub with-id : (type : ℕ) → id_held (held_pairs (with_pair g kind id)) type ≡ pick (eqb kind type) (Given id) (id_held (held_pairs g) type)
+  pub with-id : (type : ℕ) → id_held (held_pairs (with_pair g kind id)) type ≡ pick (eqb kind type) (Some id) (id_held (held_pairs g) type)
   unfolding with_pair
   with-id type = let h = place-free in id-with kind id type g.list g.count (omega arith)
 
@@ -178,11 +177,11 @@ module _ (g : Groups) (kind : ℕ) (list : length g.list ≡ 8) (few : g.count �
       pick-both (λ (y : ℕ). type_at g i ≡ y → ⊥) (ltb j 8) _ _ (λ t. let b = ltb-true j 8 t in d i j h (omega arith)) (λ _. another i a))
       (λ s. let a = ltb-false i 8 s in absurd (omega arith))
 
-  pub nine : (f : ℕ → Number) → TypesDiffer g → ((i : ℕ) → i < g.count → f (type_at g i) ≡ Absent → ⊥) → (f kind ≡ Absent → ⊥) → Nine f
+  pub nine : (f : ℕ → Option ℕ) → TypesDiffer g → ((i : ℕ) → i < g.count → f (type_at g i) ≡ None → ⊥) → (f kind ≡ None → ⊥) → Nine f
   nine f d held new =
       let c = all_held in
       record {
         type = ninth;
         differ = ninth-differs d;
-        held = λ i _. pick-both (λ (x : ℕ). f x ≡ Absent → ⊥) (ltb i 8) _ _ (λ s. let a = ltb-true i 8 s in held i (omega arith)) (λ _. new);
+        held = λ i _. pick-both (λ (x : ℕ). f x ≡ None → ⊥) (ltb i 8) _ _ (λ s. let a = ltb-true i 8 s in held i (omega arith)) (λ _. new);
       }

@@ -1,15 +1,15 @@
 -- What `specs/Report.antt` states.
+use Rattle.std.specs.Prelude.{None, Option, Some}
 use Prim.Native.Nat.{ℕ}
 use mathlib.Core.Path.{◌≡◌, refl, sym, ap, ◌∙◌}
 use mathlib.Core.List.{List, [], ◌∷◌}
 use mathlib.Core.Bool.{Bool, true, false, ◌&&◌, and-false, true≢false}
 use mathlib.Core.Logic.{◌⊎◌, inl, inr}
-use mathlib.Core.Option.{Option, none, some}
 use borrow.Author.Tests.{leb-true}
 use lib.Dec.{eqb, leb, ltb}
 use lib.ListN.{length}
 use Rattle.ack.specs.Take.{is_awaited, is_takable, accepted_by, taken_by, taken, acknowledged}
-use Rattle.assign.specs.Assign.{in_session, with_session, with_report, holding}
+use Rattle.assign.specs.Assign.{in_session, with_session, with_report, regrouped}
 use Rattle.buffer.specs.Pick.{pick}
 use Rattle.buffer.specs.Stretch.{fits, stretch}
 use Rattle.buffer.specs.Walk.{walk_for, walk}
@@ -23,7 +23,7 @@ use Rattle.decode_report.specs.Statements.{heartbeat_alone}
 use Rattle.decode_report.proofs.Theorems.{report-read}
 use Rattle.encode.specs.Write.{report_record}
 use Rattle.learn.specs.Learn.{learnt_of, learnt_from, padded_in}
-use Rattle.note.specs.Note.{reading_at, nothing_learnt, with_assigned, redirect_noted, session_noted, report_noted, group_assigned, grouped, with_group, group_noted, validity_noted, signature_noted, noted}
+use Rattle.note.specs.Note.{reading_at, nothing_learnt, with_assigned, redirect_noted, session_noted, report_noted, with_regrouped, group_assigned, grouped, with_group, group_noted, validity_noted, signature_noted, noted}
 use Rattle.note.specs.declared.Learnt.{Learnt}
 use Rattle.own.specs.Own.{report_shown}
 use Rattle.post.specs.Judge.{badly_signed}
@@ -31,8 +31,6 @@ use Rattle.protobuf.specs.Each.{Each}
 use Rattle.protobuf.specs.Field.{numbered, held, spanned, content_at, of_tag, field_at, field_step, fields_from}
 use Rattle.protobuf.specs.Given.{bytes_given}
 use Rattle.protobuf.specs.Write.{if_any, each}
-use Rattle.protobuf.specs.declared.Number.{Number}
-use Rattle.protobuf.specs.declared.Number.TheVariants.{Given, Absent}
 use Rattle.refusal.specs.Refusal.{own_refusal}
 use Rattle.schedule.specs.declared.Point.{Point}
 use Rattle.state.specs.declared.Assigned.{Assigned}
@@ -64,20 +62,21 @@ kept a v w e = rw (interval-same _ _ ((report-read v).interval ∙ e.0 ∙ sym (
 -- a session and groups leave what is shown
 in-session-shown : (a : Assigned) (id : Option (List ℕ)) → report_shown (in_session a id) ≡ report_shown a
 unfolding report_shown
-in-session-shown a none = refl
-in-session-shown a (some id) = refl
+in-session-shown a None = refl
+in-session-shown a (Some id) = refl
 
-holding-shown : (a : Assigned) (g : Groups) → report_shown (holding a g) ≡ report_shown a
+regrouped-shown : (l : Learnt) (groups : Option Groups) → report_shown (with_regrouped l groups).assigned ≡ report_shown l.assigned
 unfolding report_shown
-holding-shown a g = refl
+regrouped-shown l None = refl
+regrouped-shown l (Some groups) = refl
 
-grouped-shown : (l : Learnt) (kind id : Number) → report_shown (grouped l kind id).assigned ≡ report_shown l.assigned
+grouped-shown : (l : Learnt) (kind id : Option ℕ) → report_shown (grouped l kind id).assigned ≡ report_shown l.assigned
 unfolding group_assigned
-grouped-shown l Absent id = refl
-grouped-shown l (Given kind) Absent = refl
-grouped-shown l (Given kind) (Given id) =
+grouped-shown l None id = refl
+grouped-shown l (Some kind) None = refl
+grouped-shown l (Some kind) (Some id) =
     pick-both (λ (m : Learnt). report_shown m.assigned ≡ report_shown l.assigned) (leb 8 l.group_assigns) _ _ (λ _. refl)
-    (λ _. holding-shown l.assigned _)
+    (λ _. regrouped-shown l (regrouped l.assigned.groups kind id))
 
 -- one record, by its type
 module _ (d : Device) (time : Point) where

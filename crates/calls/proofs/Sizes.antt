@@ -1,10 +1,10 @@
 -- Every state that setup and calls make is sized.
+use Rattle.std.specs.Prelude.{None, Option, Some, Result, Ok, Err}
 use Prim.Native.Nat.{ℕ, ◌-◌, ◌≤◌}
 use mathlib.Core.Path.{◌≡◌, refl, sym, ◌∙◌}
 use mathlib.Core.List.{List, [], ◌∷◌}
 use mathlib.Core.Bool.{Bool, true, false, not, ◌&&◌, ◌||◌, true≢false}
 use mathlib.Core.Logic.{inl}
-use mathlib.Core.Option.{Option, none, some}
 use native.Mathlib.Omega.{arith}
 use borrow.Author.Tests.{ltb-false, leb-true, eqb-true, eqb-false, not-true}
 use lib.Dec.{eqb, ltb, leb}
@@ -13,8 +13,8 @@ use lib.Seq.{length-sets}
 use Rattle.buffer.proofs.Tests.{pick-both, both, neither}
 use Rattle.buffer.specs.Same.{same_bytes}
 use Rattle.coap.specs.Frame.{frame_of}
-use Rattle.coap.specs.declared.Datagram.{Datagram}
-use Rattle.coap.specs.declared.Datagram.TheVariants.{Frame as Whole, Malformed, Foreign}
+use Rattle.coap.specs.declared.FrameError.{FrameError}
+use Rattle.coap.specs.declared.FrameError.TheVariants.{Malformed, Foreign}
 use Rattle.coap.specs.declared.Frame.{Frame}
 use Rattle.csmp.specs.Values.{at_most}
 use Rattle.decode.specs.Read.{redirect_of}
@@ -26,14 +26,10 @@ use Rattle.loading.specs.Load.{with_pending, is_pending, open_fault, source_faul
 use Rattle.opening.specs.Open.{sized_texts, is_given, number_or0, is_whole, is_ours, fault_of, opened_by, replaced, opens, open_if, transfer_taken, transfer_answered}
 use Rattle.firmware.specs.Place.{is_hash, hash_at}
 use Rattle.firmware.specs.declared.Answered.{Answered}
-use Rattle.post.specs.Judge.{looked_at, padded_in, judged_as}
+use Rattle.post.specs.Judge.{looked_at, padded_in, judged_as, Judgement}
 use Rattle.post.specs.Value.{reading_at, is_readable}
-use Rattle.post.specs.declared.Judgement.{Judgement}
-use Rattle.post.specs.declared.Judgement.TheVariants.{Error as Refused, Run}
 use Rattle.protobuf.specs.Each.{IfAny, Each}
 use Rattle.protobuf.specs.Given.{bytes_given}
-use Rattle.protobuf.specs.declared.Bytes.{Bytes}
-use Rattle.protobuf.specs.declared.Bytes.TheVariants.{At, Absent}
 use Rattle.registration.specs.Redirect.{restarted}
 use Rattle.decimal.specs.Ids.{held as listed}
 use Rattle.request.specs.Request.{request_of}
@@ -43,10 +39,8 @@ use Rattle.run.specs.Post.{posted_as, judged_at, posted}
 use Rattle.run.specs.Run.{ran}
 use Rattle.step.specs.Step.{World, with_images, block_taken, act}
 use Rattle.run.proofs.Laws.{run-readable}
-use Rattle.schedule.specs.declared.Moment.{Moment}
-use Rattle.schedule.specs.declared.Moment.TheVariants.{At as On, Absent as Never}
 use Rattle.schedule.specs.declared.Point.{Point}
-use Rattle.state.specs.Setup.{hw_id_of, url_of, hash_of as running_of, within, valid_texts, valid_settings, first_state, setup_of}
+use Rattle.state.specs.Setup.{hash_of as running_of, within, valid_texts, valid_settings, first_state, setup_of}
 use Rattle.state.specs.declared.Device.{Device}
 use Rattle.state.specs.declared.Groups.{Groups}
 use Rattle.state.specs.declared.Images.{Images}
@@ -74,6 +68,7 @@ use Rattle.calls.proofs.WaitSizes.{keeps-sized, body-short, ids-fit, answer-size
 use Rattle.calls.proofs.AckSizes.{redirect-sized, acknowledged-sized}
 use Rattle.class.specs.declared.Class.{Class}
 use Rattle.class.specs.declared.Class.TheVariants.{Request, Acknowledgement, Rejected, Ignored}
+use Rattle.protobuf.specs.declared.Span.{Span}
 
 -- setup: texts and settings that are valid are sized
 within-told : (low n high : ℕ) → within low n high ≡ true → Between low n high
@@ -84,7 +79,7 @@ within-told low n high h =
 
 module _ (hw vendor running url : List ℕ) (s : Settings) where
   first-sized : valid_texts hw vendor running url ≡ true → valid_settings s ≡ true → Sized (first_state hw vendor running url s)
-  unfolding valid_texts valid_settings first_state hw_id_of url_of running_of
+  unfolding valid_texts valid_settings first_state running_of
   first-sized h g =
       let a = both (within 1 (length hw) 32) (leb (length vendor) 32 && (eqb (length running) 32 && within 1 (length url) 128)) h in
       let b = both (leb (length vendor) 32) (eqb (length running) 32 && within 1 (length url) 128) a.1 in
@@ -137,10 +132,10 @@ module _ (hw vendor running url : List ℕ) (s : Settings) where
       (λ h e. absurd (omega arith))
 
 -- bytes of a value as the state holds them
-hash-long : (v : List ℕ) (b : Bytes) → length (hash_at v b) ≡ 32
+hash-long : (v : List ℕ) (b : Option Span) → length (hash_at v b) ≡ 32
 unfolding hash_at
-hash-long v (At start stop) = length-sets (replicate 32 0) 0 (take (stop - start) (drop start v))
-hash-long v Absent = refl
+hash-long v (Some x) = length-sets (replicate 32 0) 0 (take (x.end - x.start) (drop x.start v))
+hash-long v None = refl
 
 -- record 65: an image begins with no block held
 opened-counts : (v : List ℕ) (t : Transfer) (size each : ℕ) → CountsOnes (opened_by v t size each)
@@ -249,10 +244,10 @@ module _ (d : Device) (i : Images) (s : ImagesSized d i) where
       pick-both Answers (eqb (source_fault i hash) 0) _ _
       (λ h. pick-both Answers (eqb (pending_fault i hash) 0) _ _ (λ g. pending-sized hash true time l) (λ g. s)) (λ h. s)
 
-  loads-at-sized : (hash : List ℕ) (time : Moment) → length hash ≡ 32 → Answers (loads_at i hash time)
+  loads-at-sized : (hash : List ℕ) (time : Option Point) → length hash ≡ 32 → Answers (loads_at i hash time)
   unfolding loads_at
-  loads-at-sized hash (On t) l = pick-both Answers (eqb t.0 0) _ _ (λ h. s) (λ h. loads-sized hash t l)
-  loads-at-sized hash Never l = s
+  loads-at-sized hash (Some t) l = pick-both Answers (eqb t.0 0) _ _ (λ h. s) (λ h. loads-sized hash t l)
+  loads-at-sized hash None l = s
 
   load_sized : (v : List ℕ) → Answers (load_answered i v)
   unfolding load_answered load_taken
@@ -309,8 +304,8 @@ module _ (d : Device) (i : Image) (bs : List ℕ) (s : OpenSized d i) (c : Count
       ))
 
   offer-sized : (o : Option Offer) → BlocksSized (put_offer i bs o).image
-  offer-sized none = (s, c.number, t)
-  offer-sized (some o) = put-sized o.number o.bytes
+  offer-sized None = (s, c.number, t)
+  offer-sized (Some o) = put-sized o.number o.bytes
 
   take-sized : (v : List ℕ) → BlocksSized (take_block i bs v).image
   unfolding take_block
@@ -377,11 +372,11 @@ module _ (d : Device) (sized : DeviceSized d) where
   ran-sized w [] h s = s
   ran-sized w (t ∷ ts) h s = ran-sized (act d w t.kind t.value) ts h.1 (act-sized w t.kind t.value h.0 s)
 
-  posted-as-sized : (w : World) (p : List ℕ) (b : Bool) (j : Judgement) → (j ≡ Run → Each Readable (records p)) → WorldSized d w
+  posted-as-sized : (w : World) (p : List ℕ) (b : Bool) (j : Judgement) → (j ≡ Ok tt → Each Readable (records p)) → WorldSized d w
       → WorldSized d (posted_as d w p b j).world
   unfolding posted_as
-  posted-as-sized w p b (Refused code) h s = s
-  posted-as-sized w p b Run h s = ran-sized w (records p) (h refl) s
+  posted-as-sized w p b (Err code) h s = s
+  posted-as-sized w p b (Ok tt) h s = ran-sized w (records p) (h refl) s
 
 posted-sized : (d : Device) (g : Groups) (w : World) (p : List ℕ) (time : Point) (verdict : ℕ) → DeviceSized d → WorldSized d w
     → WorldSized d (posted d g w p time verdict).world
@@ -430,11 +425,11 @@ module _ (s : State) (image : List ℕ) (sized : Sized s) where
     classed-sized f Rejected = sized
     classed-sized f Ignored = sized
 
-    received-sized : (r : Datagram) → Sized (received s image c r).state
+    received-sized : (r : Result Frame FrameError) → Sized (received s image c r).state
     unfolding received
-    received-sized Foreign = sized
-    received-sized (Malformed kind id) = sized
-    received-sized (Whole f) = classed-sized f (class_of f.kind f.code)
+    received-sized (Err Foreign) = sized
+    received-sized (Err (Malformed kind id)) = sized
+    received-sized (Ok f) = classed-sized f (class_of f.kind f.code)
 
     datagram-sized : Sized (datagram_of s image c).state
     unfolding datagram_of

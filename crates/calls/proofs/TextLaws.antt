@@ -1,4 +1,5 @@
 -- Text that is read and kept stays text, document 02, Q-5; ids that are listed are below 2^32.
+use Rattle.std.specs.Prelude.{None, Option, Some}
 use Prim.Native.Nat.{ℕ, ◌-◌, ◌^◌, ◌≤◌}
 use mathlib.Core.Path.{◌≡◌, refl, sym, subst, ◌∙◌}
 use mathlib.Core.List.{List, [], ◌∷◌}
@@ -15,8 +16,6 @@ use Rattle.csmp.specs.declared.Image.{Image}
 use Rattle.csmp.proofs.Formed.{redirect-formed, session-formed, transfer-request-formed}
 use Rattle.decimal.specs.Decimal.{IsId, spelt, all_digits, digits_of, zero_or, id_of, id_then, ids_among}
 use Rattle.decimal.specs.Ids.{held}
-use Rattle.decimal.specs.declared.Id.{Id}
-use Rattle.decimal.specs.declared.Id.TheVariants.{Given, Nothing}
 use Rattle.decode.specs.Read.{redirect_of, session_of}
 use Rattle.decode.proofs.Theorems.{read-by-tables}
 use Rattle.decode_image.specs.Read.{transfer_of}
@@ -26,13 +25,12 @@ use Rattle.decode_report.proofs.Theorems.{report-read}
 use Rattle.firmware.specs.Place.{name_at, version_at}
 use Rattle.protobuf.specs.Each.{IfAny, Each}
 use Rattle.protobuf.specs.Given.{bytes_given}
-use Rattle.protobuf.specs.declared.Bytes.{Bytes}
-use Rattle.protobuf.specs.declared.Bytes.TheVariants.{At, Absent}
 use Rattle.tables.specs.Statements.{Texts}
 use Rattle.tables.specs.Table.{readable, read_by}
 use Rattle.tables.proofs.TableTexts.{texts-read}
 use Rattle.transfer.proofs.Stores.{take-sets}
 use Rattle.utf8.specs.Utf8.{utf8_from, is_utf8, IsText}
+use Rattle.protobuf.specs.declared.Span.{Span}
 
 -- no bytes are text
 pub none-text : (l : List ℕ) → IsText (take 0 l)
@@ -53,20 +51,20 @@ HeldText n len bs = (len ≤ n) × IsText (take len bs)
 pub text-held : (n : ℕ) (bs : List ℕ) → ShortText n bs → HeldText n (length bs) (sets (replicate n 0) 0 bs)
 text-held n bs h = (h.0, subst IsText (sym (kept n bs h.0)) h.1)
 
-pub short-text : (n : ℕ) (v : List ℕ) (b : Bytes) → at_most n b ≡ true → IfAny IsText (bytes_given v b) → IfAny (ShortText n) (bytes_given v b)
+pub short-text : (n : ℕ) (v : List ℕ) (b : Option Span) → at_most n b ≡ true → IfAny IsText (bytes_given v b) → IfAny (ShortText n) (bytes_given v b)
 unfolding at_most
-short-text n v (At start stop) h t = (omega (arith, length-take (stop - start) (drop start v), leb-true (stop - start) n h), t)
-short-text n v Absent h t = tt
+short-text n v (Some x) h t = (omega (arith, length-take (x.end - x.start) (drop x.start v), leb-true (x.end - x.start) n h), t)
+short-text n v None h t = tt
 
-pub name-held : (v : List ℕ) (b : Bytes) → IfAny (ShortText 128) (bytes_given v b) → HeldText 128 (name_at v b).len (name_at v b).bytes
+pub name-held : (v : List ℕ) (b : Option Span) → IfAny (ShortText 128) (bytes_given v b) → HeldText 128 (name_at v b).len (name_at v b).bytes
 unfolding name_at
-name-held v (At start stop) h = text-held 128 (take (stop - start) (drop start v)) h
-name-held v Absent h = (omega arith, none-text (replicate 128 0))
+name-held v (Some x) h = text-held 128 (take (x.end - x.start) (drop x.start v)) h
+name-held v None h = (omega arith, none-text (replicate 128 0))
 
-pub version-held : (v : List ℕ) (b : Bytes) → IfAny (ShortText 32) (bytes_given v b) → HeldText 32 (version_at v b).len (version_at v b).bytes
+pub version-held : (v : List ℕ) (b : Option Span) → IfAny (ShortText 32) (bytes_given v b) → HeldText 32 (version_at v b).len (version_at v b).bytes
 unfolding version_at
-version-held v (At start stop) h = text-held 32 (take (stop - start) (drop start v)) h
-version-held v Absent h = (omega arith, none-text (replicate 32 0))
+version-held v (Some x) h = text-held 32 (take (x.end - x.start) (drop x.start v)) h
+version-held v None h = (omega arith, none-text (replicate 32 0))
 
 -- file name and version of an image are text
 abbrev pub Named : Image → Type 0
@@ -97,9 +95,9 @@ module _ (v : List ℕ) where
     version-text = subst (IfAny IsText) (sym (images-by-tables.transfers v).version) transfer-texts.1.1.1.0
 
 -- what a text spells is an id
-abbrev Spelt : Id → Type 0
-Spelt (Given id) = IsId id
-Spelt Nothing = Unit {0}
+abbrev Spelt : Option ℕ → Type 0
+Spelt (Some id) = IsId id
+Spelt None = Unit {0}
 
 zero-small : (s : List ℕ) → Spelt (zero_or s)
 unfolding zero_or
@@ -117,10 +115,10 @@ unfolding id_of
 id-small [] = tt
 id-small (b ∷ s) = pick-both Spelt (eqb b 48) _ _ (λ _. zero-small s) (λ _. digits-small (b ∷ s))
 
-then-small : (i : Id) (ids : List ℕ) → Spelt i → Each IsId ids → Each IsId (id_then i ids)
+then-small : (i : Option ℕ) (ids : List ℕ) → Spelt i → Each IsId ids → Each IsId (id_then i ids)
 unfolding id_then
-then-small (Given id) ids h k = (h, k)
-then-small Nothing ids h k = k
+then-small (Some id) ids h k = (h, k)
+then-small None ids h k = k
 
 among-small : (ts : List (List ℕ)) → Each IsId (ids_among ts)
 unfolding ids_among

@@ -1,21 +1,23 @@
 -- What `specs/Text.antt` states.
+use Rattle.std.specs.Prelude.{None, Option, Some, Result, Ok, Err}
+use Rattle.post.specs.Judge.{Judgement}
 use Prim.Native.Nat.{ℕ}
 use mathlib.Core.Path.{◌≡◌, refl, sym, subst}
 use mathlib.Core.List.{List, [], ◌∷◌, ◌++◌, map}
 use mathlib.Core.Bool.{Bool, true, not}
-use mathlib.Core.Option.{some}
 use native.Mathlib.Omega.{arith}
 use borrow.Author.Tests.{eqb-true}
 use lib.Dec.{eqb, ltb}
 use lib.ListN.{length, take, drop}
+use Rattle.buffer.specs.Pick.{pick}
 use Rattle.buffer.proofs.Tests.{pick-both}
 use Rattle.class.specs.Class.{class_of}
 use Rattle.class.specs.declared.Class.{Class}
 use Rattle.class.specs.declared.Class.TheVariants.{Request, Acknowledgement, Rejected, Ignored}
 use Rattle.coap.specs.Frame.{frame_of}
 use Rattle.coap.specs.Write.{registration_head, report_head}
-use Rattle.coap.specs.declared.Datagram.{Datagram}
-use Rattle.coap.specs.declared.Datagram.TheVariants.{Frame as Whole, Malformed, Foreign}
+use Rattle.coap.specs.declared.FrameError.{FrameError}
+use Rattle.coap.specs.declared.FrameError.TheVariants.{Malformed, Foreign}
 use Rattle.coap.specs.declared.Frame.{Frame}
 use Rattle.copy.specs.Shown.{shown_of}
 use Rattle.copy.specs.declared.Choice.TheVariants.{Only, Except}
@@ -30,9 +32,7 @@ use Rattle.get.specs.Get.{Content, content, index_got, record_got, records_got}
 use Rattle.index.specs.Index.{ids_there}
 use Rattle.outgoing.specs.Sent.{sendable, session_shown, device_id, known_to, registration_sent, report_sent, head_of, answer_sent}
 use Rattle.own.specs.Own.{own_records}
-use Rattle.post.specs.declared.Judgement.{Judgement}
-use Rattle.post.specs.declared.Judgement.TheVariants.{Error as Erring, Run}
-use Rattle.protobuf.specs.Given.{number_given, if_given}
+use Rattle.protobuf.specs.Given.{if_given}
 use Rattle.protobuf.specs.Write.{if_any}
 use Rattle.refusal.specs.Refusal.{refusal_of, own_refusal}
 use Rattle.registration.specs.Round.{id_taken, round_taken}
@@ -43,8 +43,6 @@ use Rattle.request.specs.declared.Asks.{Asks}
 use Rattle.request.specs.declared.Asks.TheVariants.{Error, Post as Posting, Index, Record, Records}
 use Rattle.run.specs.Post.{posted_as, judged_at, posted}
 use Rattle.run.specs.Run.{responses}
-use Rattle.schedule.specs.declared.Moment.{Moment}
-use Rattle.schedule.specs.declared.Moment.TheVariants.{Absent as Never}
 use Rattle.schedule.specs.declared.Point.{Point}
 use Rattle.state.specs.Groups.{held_pairs}
 use Rattle.state.specs.declared.Assigned.{Assigned}
@@ -61,9 +59,10 @@ use Rattle.tables.specs.Table.{Table, Values, written as row_written, write_by}
 use Rattle.tlv.specs.Record.{Tlv, records, record_bytes}
 use Rattle.waiting.proofs.Theorems.{takes-earliest}
 use Rattle.waiting.specs.Waiting.{held_in, due_of}
+use Rattle.waiting.specs.declared.Due.{Due}
 use Rattle.calls.specs.Answers.{Lent, FromRun}
 use Rattle.calls.specs.Datagram.{Call, Effect, world_in, refusal, served_as, served, replied, with_waiting, keeps, classed, received, datagram_of}
-use Rattle.calls.specs.Due.{Dispatch, records_of, dispatched, datagram_for, dispatch_of, answer_due}
+use Rattle.calls.specs.Due.{Dispatch, records_of, dispatched, datagram_for, dispatch_of, answer_due, undispatched}
 use Rattle.calls.specs.Made.{AssignedSized, Sized}
 use Rattle.calls.specs.Own.{Sending, sending, sending_if, round_of, reports, report_of}
 use Rattle.calls.specs.Text.{table_of, Carries, nothing, copied, written, both, Replies, silent, resets, answers}
@@ -81,13 +80,13 @@ module _ (store : List ℕ) where
   by-table k T e = subst (λ (X : Table). (v : Values X) → Texts X v → Carries store (record_bytes k (write_by X v))) e (written k)
 
   -- responses have no strings; one with no load time is what its own table writes
-  answered : (k : ℕ) → table_of k ≡ response_table → (h : Hash) (answer : ℕ) → Carries store (response_record k h answer Never)
+  answered : (k : ℕ) → table_of k ≡ response_table → (h : Hash) (answer : ℕ) → Carries store (response_record k h answer None)
   unfolding response_record moment_number write_by row_written if_any
-  answered k e h answer = by-table k response_table e (if_given h.given h.bytes, (some answer, tt)) (tt, (tt, tt))
+  answered k e h answer = by-table k response_table e (if_given h.given h.bytes, (Some answer, tt)) (tt, (tt, tt))
 
-  loaded : (h : Hash) (answer : ℕ) (time : Moment) → Carries store (response_record 72 h answer time)
+  loaded : (h : Hash) (answer : ℕ) (time : Option Point) → Carries store (response_record 72 h answer time)
   unfolding response_record
-  loaded h answer time = written 72 (if_given h.given h.bytes, (some answer, (number_given (moment_number time), tt))) (tt, (tt, (tt, tt)))
+  loaded h answer time = written 72 (if_given h.given h.bytes, (Some answer, (moment_number time, tt))) (tt, (tt, (tt, tt)))
 
   response-carries : (d : Device) (w : World) (k : ℕ) (v : List ℕ) → Carries store (response d w k v)
   unfolding response
@@ -105,8 +104,8 @@ module _ (store : List ℕ) where
 
   posted-carries : (d : Device) (w : World) (p : List ℕ) (b : Bool) (j : Judgement) → Carries store (posted_as d w p b j).body
   unfolding posted_as
-  posted-carries d w p b (Erring code) = nothing
-  posted-carries d w p b Run = responses-carry d w (records p)
+  posted-carries d w p b (Err code) = nothing
+  posted-carries d w p b (Ok tt) = responses-carry d w (records p)
 
   -- a GET's payload, if it is not too long
   content-carries : {bs : List ℕ} → Carries store bs → Carries store (content bs).body
@@ -118,7 +117,7 @@ module _ (store : List ℕ) where
   unfolding session_shown session_record
   session-carries a k =
       pick-both (Carries store) a.in_session _ _
-      (λ _. written 7 (some (take a.session.len a.session.bytes), tt) (k.text, tt)) (λ _. nothing)
+      (λ _. written 7 (Some (take a.session.len a.session.bytes), tt) (k.text, tt)) (λ _. nothing)
 
   module _ (ok : acceptable store ≡ true) (s : State) (k : Sized s) where
     -- by what is asked
@@ -193,11 +192,11 @@ module _ (s : State) (image : List ℕ) (c : Call) (k : Sized s) where
   classed-replies ok f Rejected = resets f.id
   classed-replies ok f Ignored = silent
 
-  received-replies : acceptable c.store ≡ true → (m : Datagram) → Replied (received s image c m)
+  received-replies : acceptable c.store ≡ true → (m : Result Frame FrameError) → Replied (received s image c m)
   unfolding received reset_to
-  received-replies ok (Whole f) = classed-replies ok f (class_of f.kind f.code)
-  received-replies ok (Malformed kind id) = pick-both (Replies c.store) (eqb kind 0) _ _ (λ _. resets id) (λ _. silent)
-  received-replies ok Foreign = silent
+  received-replies ok (Ok f) = classed-replies ok f (class_of f.kind f.code)
+  received-replies ok (Err (Malformed kind id)) = pick-both (Replies c.store) (eqb kind 0) _ _ (λ _. resets id) (λ _. silent)
+  received-replies ok (Err Foreign) = silent
 
   datagram-replies : Replied (datagram_of s image c)
   unfolding datagram_of
@@ -254,11 +253,11 @@ module _ (s : State) (k : Sized s) (store : List ℕ) (time : Point) (ok : accep
       (λ _. unsent)
 
 -- the answer that is due holds what was kept for it
-due-runs : (s : State) (buffer : List ℕ) (time : Point) → Lent s buffer → (due_of s.waiting time).is ≡ true
-    → (due_of s.waiting time).answer.what ≡ Responses → FromRun (held_in (due_of s.waiting time).answer buffer)
-due-runs s buffer time l t =
+due-runs : (s : State) (buffer : List ℕ) (time : Point) → Lent s buffer → (due : Due) → due_of s.waiting time ≡ Some due
+    → due.answer.what ≡ Responses → FromRun (held_in due.answer buffer)
+due-runs s buffer time l due t =
     let k = (made-sized s (answers-held.made s buffer l)).waiting in
-    let x = takes-earliest.one s.waiting time k.list k.count t in
+    let x = takes-earliest.one s.waiting time k.list k.count due t in
     subst (λ (d : Delayed). d.what ≡ Responses → FromRun (held_in d buffer)) (sym x.1.answer) (answers-held.responses s buffer l x.0 x.1.held)
 
 dispatched-sends : (store head : List ℕ) (s : State) (url bs : List ℕ) → Sends store head bs → Sends store head (dispatched s url bs).sent
@@ -270,20 +269,26 @@ due-sends : (s : State) (buffer : List ℕ) (out : ℕ) (store : List ℕ) (time
     → (named : Bool) × Sends store (head_of named s.registration.message_id) (answer_due s buffer out store time).sent
 unfolding answer_due dispatch_of datagram_for
 due-sends s buffer out store time l =
-    let d = due_of s.waiting time in
-    let named = not (eqb d.answer.url 0) in
-    let head = head_of named s.registration.message_id in
-    let k = made-sized s (answers-held.made s buffer l) in
-    let P : Dispatch → Type 0 = λ x. Sends store head x.sent in (
-      named,
-      pick-both P (eqb (own_refusal out store true 0) 0) _ _
-          (λ e. let ok = own-acceptable out store true 0 (eqb-true _ 0 e) in
-          pick-both P d.is _ _
-          (λ t. dispatched-sends store head (with_waiting s d.left) _ _
-          (answer-sends s k store time ok named _ (kept-carry s k store time ok (held_in d.answer buffer) d.answer.what (due-runs s buffer time l t))))
-          (λ _. unsent))
-          (λ _. unsent),
-    )
+    go (due_of s.waiting time) refl
+  where
+    Goes : Dispatch → Type 0
+    Goes x = (named : Bool) × Sends store (head_of named s.registration.message_id) x.sent
+
+    go : (d : Option Due) → due_of s.waiting time ≡ d
+        → Goes (pick (eqb (own_refusal out store true 0) 0) (dispatch_of s buffer store time d) (undispatched (own_refusal out store true 0) s))
+    go None e = (true, pick-both (λ (x : Dispatch). Sends store (head_of true s.registration.message_id) x.sent) (eqb (own_refusal out store true 0) 0) _ _ (λ _. unsent) (λ _. unsent))
+    go (Some d) t =
+        let named = not (eqb d.answer.url 0) in
+        let head = head_of named s.registration.message_id in
+        let k = made-sized s (answers-held.made s buffer l) in
+        let P : Dispatch → Type 0 = λ x. Sends store head x.sent in (
+          named,
+          pick-both P (eqb (own_refusal out store true 0) 0) _ _
+              (λ e. let ok = own-acceptable out store true 0 (eqb-true _ 0 e) in
+              dispatched-sends store head (with_waiting s d.left) _ _
+              (answer-sends s k store time ok named _ (kept-carry s k store time ok (held_in d.answer buffer) d.answer.what (due-runs s buffer time l d t))))
+              (λ _. unsent),
+        )
 
 pub text-only : TextOnly
 unfolding round_of report_of

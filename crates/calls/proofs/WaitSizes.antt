@@ -1,4 +1,5 @@
 -- What a request that asks for a delay keeps, and what is left when an answer is due, is sized.
+use Rattle.std.specs.Prelude.{Ok, None, Option, Some}
 use Prim.Native.Nat.{ℕ, ◌≤◌}
 use mathlib.Core.Path.{◌≡◌, refl}
 use mathlib.Core.List.{List, [], ◌∷◌}
@@ -8,7 +9,6 @@ use lib.Dec.{eqb}
 use lib.ListN.{length}
 use Rattle.buffer.proofs.Tests.{pick-both}
 use Rattle.coap.specs.declared.Frame.{Frame}
-use Rattle.post.specs.declared.Judgement.TheVariants.{Run}
 use Rattle.refusal.specs.Refusal.{own_refusal}
 use Rattle.request.proofs.Judged.{asked-records, delay-url}
 use Rattle.request.proofs.Texts.{ids_short}
@@ -28,7 +28,8 @@ use Rattle.state.specs.declared.What.{What}
 use Rattle.tlv.specs.Record.{records}
 use Rattle.waiting.proofs.Sizes.{kept-sized, due-sized}
 use Rattle.waiting.specs.Sized.{WaitingSized}
-use Rattle.waiting.specs.Waiting.{due_of}
+use Rattle.waiting.specs.Waiting.{due_of, left_by}
+use Rattle.waiting.specs.declared.Due.{Due}
 use Rattle.calls.proofs.OwnSizes.{taken-sized}
 use Rattle.calls.specs.Datagram.{Call, world_in, post_in, url_by, ids_by, ids_from, waiting_with, with_waiting, keeps}
 use Rattle.calls.specs.Due.{Dispatch, dispatched, dispatch_of, answer_due}
@@ -53,11 +54,11 @@ ids-fit bytes f e =
     rw r.2 (omega arith)
 
 -- the responses of a POST
-few : (d : Device) (g : Groups) (p : List ℕ) (time : Point) (verdict : ℕ) → judged_at d g p time verdict ≡ Run → length (records p) ≤ 24
+few : (d : Device) (g : Groups) (p : List ℕ) (time : Point) (verdict : ℕ) → judged_at d g p time verdict ≡ Ok tt → length (records p) ≤ 24
 unfolding judged_at
 few d g p time verdict j = run-few g time p verdict d.signed_posts d.refuse_padding j
 
-pub body-short : (s : State) (image : List ℕ) (c : Call) (p : List ℕ) → judged_at s.device s.assigned.groups p c.time c.verdict ≡ Run
+pub body-short : (s : State) (image : List ℕ) (c : Call) (p : List ℕ) → judged_at s.device s.assigned.groups p c.time c.verdict ≡ Ok tt
     → length (post_in s image c p).body ≤ 1056
 unfolding posted posted_as
 body-short s image c p j = rw j (responses-most s.device (world_in s image) (records p) (few s.device s.assigned.groups p c.time c.verdict j))
@@ -88,9 +89,11 @@ dispatched-sized s k url (b ∷ bs) =
     }
 
 pub answer-sized : (s : State) (answers : List ℕ) (out : ℕ) (store : List ℕ) (time : Point) → Sized s → Left (answer_due s answers out store time)
-unfolding answer_due dispatch_of
+unfolding answer_due dispatch_of left_by
 answer-sized s answers out store time k =
     pick-both Left (eqb (own_refusal out store true 0) 0) _ _
-    (λ _. pick-both Left (due_of s.waiting time).is _ _
-    (λ _. dispatched-sized (with_waiting s (due_of s.waiting time).left) (with-waiting s k (due-sized s.waiting time k.waiting)) _ _) (λ _. k))
-    (λ _. k)
+    (λ _. go (due_of s.waiting time) (due-sized s.waiting time k.waiting)) (λ _. k)
+  where
+    go : (d : Option Due) → WaitingSized (left_by s.waiting d) → Left (dispatch_of s answers store time d)
+    go None w = k
+    go (Some d) w = dispatched-sized (with_waiting s d.left) (with-waiting s k w) _ _

@@ -18,7 +18,7 @@ use Rattle.state.specs.declared.What.TheVariants.{Responses}
 use Rattle.state.specs.declared.setup.Settings.{Settings}
 use Rattle.step.specs.Step.{World}
 use Rattle.tlv.specs.Record.{Tlv}
-use Rattle.waiting.specs.Waiting.{held_in, due_of}
+use Rattle.waiting.specs.Waiting.{held_in, due_of, left_by}
 use Rattle.calls.specs.Boot.{boot_of}
 use Rattle.calls.specs.Datagram.{Call, ids_from, datagram_of}
 use Rattle.calls.specs.Due.{undispatched, answer_due}
@@ -56,7 +56,7 @@ pub record AnswersHeld : Type 0 where
 -- not, unless it is refused. Acknowledgements, rounds, reports and boots leave it
 pub record ListMoves : Type 0 where
   pub due : (s : State) (answers : List ℕ) (out : ℕ) (store : List ℕ) (time : Point) → own_refusal out store true 0 ≡ 0
-      → (answer_due s answers out store time).state.waiting ≡ (due_of s.waiting time).left
+      → (answer_due s answers out store time).state.waiting ≡ left_by s.waiting (due_of s.waiting time)
   pub refused : (s : State) (answers : List ℕ) (out : ℕ) (store : List ℕ) (time : Point) → (own_refusal out store true 0 ≡ 0 → ⊥)
       → answer_due s answers out store time ≡ undispatched (own_refusal out store true 0) s
   pub answered : (s : State) (id : ℕ) (p : List ℕ) (time : Point) (verdict : ℕ) → (acknowledged s id p time verdict).waiting ≡ s.waiting

@@ -1,5 +1,5 @@
 -- The call that sends a delayed answer, document 02, Q-1.
-use Rattle.std.specs.Prelude.{ℕ, List, [], ◌∷◌, true, not, eqb}
+use Rattle.std.specs.Prelude.{ℕ, List, [], ◌∷◌, true, not, eqb, None, Option, Some}
 use Rattle.buffer.specs.Pick.{pick}
 use Rattle.decimal.specs.Ids.{no_ids, held}
 use Rattle.get.specs.Get.{index_got, record_got, records_got}
@@ -45,11 +45,10 @@ unfoldable pub datagram_for : State → List ℕ → List ℕ → Point → Dela
 datagram_for s answers store time d =
     answer_sent s time (not (eqb d.url 0)) (records_of s store time (held_in d answers) d.what)
 
-unfoldable pub dispatch_of : State → List ℕ → List ℕ → Point → Due → Dispatch
-dispatch_of s answers store time due =
-    pick due.is
-    (dispatched (with_waiting s due.left) (url_in due.answer answers) (datagram_for s answers store time due.answer))
-    (undispatched 0 s)
+unfoldable pub dispatch_of : State → List ℕ → List ℕ → Point → Option Due → Dispatch
+dispatch_of s answers store time None = undispatched 0 s
+dispatch_of s answers store time (Some due) =
+    dispatched (with_waiting s due.left) (url_in due.answer answers) (datagram_for s answers store time due.answer)
 
 -- refusals 1 and 4, and no third (what is due is no matter of a refusal); with none due nothing changes
 unfoldable pub answer_due : State → List ℕ → ℕ → List ℕ → Point → Dispatch

@@ -1,17 +1,14 @@
 -- Groups by type, document 02, Q-3: what an acknowledgement makes of the groups held. That no two share a type is in `AssignedSized`.
-use Rattle.std.specs.Prelude.{ℕ, ◌≤◌, ◌<◌, ◌≡◌, List, [], ◌∷◌, true, false, ◌⊎◌, eqb, drop}
+use Rattle.std.specs.Prelude.{ℕ, ◌≤◌, ◌<◌, ◌≡◌, List, [], ◌∷◌, true, false, ◌⊎◌, eqb, drop, None, Option, Some, Ok}
 use Rattle.ack.specs.Take.{acknowledged}
 use Rattle.buffer.specs.Pick.{pick}
 use Rattle.class.specs.Class.{class_of}
 use Rattle.class.specs.declared.Class.TheVariants.{Acknowledgement}
 use Rattle.coap.specs.Frame.{frame_of}
-use Rattle.coap.specs.declared.Datagram.TheVariants.{Frame as Whole}
 use Rattle.coap.specs.declared.Frame.{Frame}
 use Rattle.decode.specs.Read.{group_of}
 use Rattle.learn.specs.Learn.{learnt_from}
 use Rattle.outgoing.specs.declared.Report.{Report}
-use Rattle.protobuf.specs.declared.Number.{Number}
-use Rattle.protobuf.specs.declared.Number.TheVariants.{Given, Absent}
 use Rattle.schedule.specs.declared.Point.{Point}
 use Rattle.state.specs.Groups.{held_pairs, type_at}
 use Rattle.state.specs.declared.Groups.{Groups}
@@ -24,18 +21,18 @@ use Rattle.calls.specs.Made.{Made}
 use Rattle.calls.specs.Own.{round_of, report_of}
 
 -- the id held for a type
-unfoldable pub id_held : List Pair → ℕ → Number
-id_held [] type = Absent
-id_held (p ∷ ps) type = pick (eqb p.kind type) (Given p.id) (id_held ps type)
+unfoldable pub id_held : List Pair → ℕ → Option ℕ
+id_held [] type = None
+id_held (p ∷ ps) type = pick (eqb p.kind type) (Some p.id) (id_held ps type)
 
 -- what a GroupAssign makes of it; an incomplete one is ignored
-abbrev pub id_assigned : ℕ → Number → Number → Number → Number
-id_assigned type was (Given kind) (Given id) = pick (eqb kind type) (Given id) was
-id_assigned type was (Given kind) Absent = was
-id_assigned type was Absent id = was
+abbrev pub id_assigned : ℕ → Option ℕ → Option ℕ → Option ℕ → Option ℕ
+id_assigned type was (Some kind) (Some id) = pick (eqb kind type) (Some id) was
+id_assigned type was (Some kind) None = was
+id_assigned type was None id = was
 
 -- several assignments in one acknowledgement apply in order
-unfoldable pub id_after : ℕ → Number → List Tlv → Number
+unfoldable pub id_after : ℕ → Option ℕ → List Tlv → Option ℕ
 id_after type was [] = was
 id_after type was (t ∷ ts) =
     id_after type (pick (eqb t.kind 55) (id_assigned type was (group_of t.value).kind (group_of t.value).id) was) ts
@@ -47,10 +44,10 @@ pub record ByType (before after : Groups) (p : List ℕ) : Type 0 where
   pub places : (i : ℕ) → i < before.count → type_at after i ≡ type_at before i
 
 -- nine types would have an id
-pub record Nine (id : ℕ → Number) : Type 0 where
+pub record Nine (id : ℕ → Option ℕ) : Type 0 where
   pub type : ℕ → ℕ
   pub differ : (i j : ℕ) → i < j → j < 9 → type i ≡ type j → ⊥
-  pub held : (i : ℕ) → i < 9 → id (type i) ≡ Absent → ⊥
+  pub held : (i : ℕ) → i < 9 → id (type i) ≡ None → ⊥
 
 -- an acknowledgement that is accepted assigns groups by type; it is said to need a ninth group only where it does; nothing else moves what was assigned
 pub record GroupsByType : Type 0 where
@@ -64,7 +61,7 @@ pub record GroupsByType : Type 0 where
       → (s.registration.accepted ≡ true) ⊎ ((acknowledged s id p time verdict).registration.accepted ≡ false)
       → (acknowledged s id p time verdict).assigned ≡ s.assigned
   pub called : (s : State) (image : List ℕ) (c : Call) → ((datagram_of s image c).state.assigned ≡ s.assigned)
-      ⊎ ((f : Frame) × (frame_of c.bytes ≡ Whole f) × (class_of f.kind f.code ≡ Acknowledgement)
+      ⊎ ((f : Frame) × (frame_of c.bytes ≡ Ok f) × (class_of f.kind f.code ≡ Acknowledgement)
       × ((datagram_of s image c).state ≡ acknowledged s f.id (drop f.payload c.bytes) c.time c.verdict))
   pub rounded : (s : State) (out : ℕ) (store : List ℕ) (time : Point) → (round_of s out store time).state.assigned ≡ s.assigned
   pub reported : (s : State) (out : ℕ) (store : List ℕ) (time : Point) (which : Report) → (report_of s out store time which).state.assigned ≡ s.assigned

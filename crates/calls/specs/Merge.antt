@@ -1,14 +1,11 @@
 -- Demand 3, document 01, "Transfer": one claim about whole lists of calls.
-use Rattle.std.specs.Prelude.{ℕ, ◌≡◌, List, [], ◌∷◌, ◌++◌, Bool, true, false, not, ◌&&◌, ◌||◌, eqb, drop}
-use Rattle.std.proofs.Math.Option.{Option, none, some}
+use Rattle.std.specs.Prelude.{ℕ, ◌≡◌, List, [], ◌∷◌, ◌++◌, Bool, true, false, not, ◌&&◌, ◌||◌, eqb, drop, None, Option, Some, Result, Ok, Err}
+use Rattle.post.specs.Judge.{Judgement}
 use Rattle.buffer.specs.Pick.{pick}
 use Rattle.coap.specs.Frame.{frame_of}
-use Rattle.coap.specs.declared.Datagram.{Datagram}
-use Rattle.coap.specs.declared.Datagram.TheVariants.{Frame as Whole, Malformed, Foreign}
+use Rattle.coap.specs.declared.FrameError.{FrameError}
 use Rattle.coap.specs.declared.Frame.{Frame}
 use Rattle.csmp.specs.declared.Image.{Image}
-use Rattle.post.specs.declared.Judgement.{Judgement}
-use Rattle.post.specs.declared.Judgement.TheVariants.{Error as Erring, Run}
 use Rattle.protobuf.specs.Each.{Each}
 use Rattle.registration.specs.Redirect.{followed, url_in}
 use Rattle.request.specs.Request.{request_of}
@@ -45,8 +42,8 @@ after_all (c ∷ cs) k = after_all cs (after k c)
 
 -- the records that a call runs: its payload's where it is not refused and reaches step j, else none
 abbrev pub runs_judged : List ℕ → Judgement → List Tlv
-runs_judged p (Erring code) = []
-runs_judged p Run = records p
+runs_judged p (Err code) = []
+runs_judged p (Ok tt) = records p
 
 -- document 02, Q-1: a POST that asks for a delay and finds no place that it needs ends before step j
 unfoldable pub shut_out : Bool → Waiting → List ℕ → Bool
@@ -65,10 +62,9 @@ runs_classed d g w c f Acknowledgement = []
 runs_classed d g w c f Rejected = []
 runs_classed d g w c f Ignored = []
 
-abbrev pub runs_framed : Device → Groups → Waiting → Call → Datagram → List Tlv
-runs_framed d g w c (Whole f) = runs_classed d g w c f (class_of f.kind f.code)
-runs_framed d g w c (Malformed kind id) = []
-runs_framed d g w c Foreign = []
+abbrev pub runs_framed : Device → Groups → Waiting → Call → Result Frame FrameError → List Tlv
+runs_framed d g w c (Ok f) = runs_classed d g w c f (class_of f.kind f.code)
+runs_framed d g w c (Err e) = []
 
 unfoldable pub runs : Kept → Call → List Tlv
 runs k c =
@@ -84,10 +80,9 @@ unfoldable pub any_steers : List Tlv → Bool
 any_steers [] = false
 any_steers (t ∷ ts) = steers t || any_steers ts
 
-abbrev pub frames_post : Datagram → Bool
-frames_post (Whole f) = eqb f.code 2
-frames_post (Malformed kind id) = false
-frames_post Foreign = false
+abbrev pub frames_post : Result Frame FrameError → Bool
+frames_post (Ok f) = eqb f.code 2
+frames_post (Err e) = false
 
 -- a call of a feed: any that the table refuses, and any POST, errors too, unless it reaches step j and holds one of those
 unfoldable pub feeds : Kept → Call → Bool
@@ -100,8 +95,8 @@ Feed k cs = Each (λ (c : Call). feeds k c ≡ true) cs
 
 -- the blocks that records offer to the open image: the hash is the open one, number and data are present
 abbrev pub with_offer : Option Offer → List Offer → List Offer
-with_offer none os = os
-with_offer (some o) os = o ∷ os
+with_offer None os = os
+with_offer (Some o) os = o ∷ os
 
 unfoldable pub offers : Image → List Tlv → List Offer
 offers i [] = []

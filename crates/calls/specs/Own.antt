@@ -1,5 +1,5 @@
 -- The calls that send a datagram of the agent's own, document 01, "House refusals" and "Registration and reports".
-use Rattle.std.specs.Prelude.{ℕ, List, [], ◌∷◌, Bool, false, not, ◌&&◌, eqb}
+use Rattle.std.specs.Prelude.{ℕ, List, [], ◌∷◌, Bool, false, not, ◌&&◌, eqb, None, Option, Some}
 use Rattle.buffer.specs.Pick.{pick}
 use Rattle.outgoing.specs.Sent.{registration_sent, report_sent}
 use Rattle.outgoing.specs.declared.Report.{Report}
@@ -7,8 +7,6 @@ use Rattle.outgoing.specs.declared.Report.TheVariants.{Primary, Heartbeat}
 use Rattle.refusal.specs.Refusal.{own_refusal}
 use Rattle.registration.specs.Backoff.{backoff_of, rest_of}
 use Rattle.registration.specs.Round.{id_taken, round_taken}
-use Rattle.schedule.specs.declared.Interval.{Interval}
-use Rattle.schedule.specs.declared.Interval.TheVariants.{Every, Absent}
 use Rattle.schedule.specs.declared.Length.{Length}
 use Rattle.schedule.specs.declared.Point.{Point}
 use Rattle.state.specs.declared.Registration.{Registration}
@@ -50,9 +48,9 @@ backoff_in s random = backoff_of s.registration.interval random
 unfoldable pub rest_in : State → ℕ → Length
 rest_in s random = rest_of s.registration.interval (backoff_in s random)
 
-unfoldable pub is_positive : Interval → Bool
-is_positive (Every l) = not (eqb l.0 0)
-is_positive Absent = false
+unfoldable pub is_positive : Option Length → Bool
+is_positive (Some l) = not (eqb l.0 0)
+is_positive None = false
 
 -- refusal 9: no session, no acceptance, or its interval absent or 0; document 02, Q-10: any heartbeat report
 unfoldable pub reports : State → Report → Bool

@@ -1,12 +1,11 @@
 -- What is proved of padding, document 02, Q-8. What padded means is said of a varint (`PaddedIsLonger`); that numbers, records and fields are told as
 -- before, by `NumbersStand`, `RecordsStand` and `FieldsStand`; what counts in a payload, by `padded_in` of a post and of an
 -- acknowledgement, and in a value by `padded` of its table; where it is answered, by `posted_as` and `taken_padded`.
-use Rattle.std.specs.Prelude.{ℕ, ◌≡◌, List, true, false, ◌&&◌}
+use Rattle.std.specs.Prelude.{ℕ, ◌≡◌, List, true, false, ◌&&◌, Err}
 use Rattle.ack.specs.Take.{taken, acknowledged}
 use Rattle.learn.specs.Learn.{padded_in as padded_ack}
 use Rattle.outgoing.specs.declared.Report.{Report}
 use Rattle.post.specs.Judge.{looked_at, padded_in, judged}
-use Rattle.post.specs.declared.Judgement.TheVariants.{Error}
 use Rattle.run.specs.Post.{Post, posted_as, judged_at, posted}
 use Rattle.schedule.specs.declared.Point.{Point}
 use Rattle.state.specs.Setup.{setup_of}
@@ -49,7 +48,7 @@ pub record PaddingRefused : Type 0 where
   pub booted : (s : State) → (boot_of s).device ≡ s.device
   -- on: 4.00 at step e, whatever f to i would say; an acknowledgement changes nothing; `padded` is never answered
   pub posts : (d : Device) (g : Groups) (p : List ℕ) (time : Point) (verdict : ℕ) → d.refuse_padding ≡ true → padded_in p ≡ true
-      → judged_at d g p time verdict ≡ Error 128
+      → judged_at d g p time verdict ≡ Err 128
   pub acknowledgements : (s : State) (id : ℕ) (p : List ℕ) (time : Point) (verdict : ℕ) → s.device.refuse_padding ≡ true
       → padded_ack p ≡ true → acknowledged s id p time verdict ≡ s
   pub never : (s : State) (image : List ℕ) (c : Call) → s.device.refuse_padding ≡ true → (datagram_of s image c).padded ≡ false

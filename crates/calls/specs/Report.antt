@@ -1,7 +1,6 @@
 -- The heartbeat report retired, document 02, Q-10: what becomes of a ReportSubscribe, and that a heartbeat report is refused. What a registration,
 -- GET and reports show as record 13 is `report_shown`. An acknowledgement that is not accepted leaves it (`GroupsByType`).
-use Rattle.std.specs.Prelude.{ℕ, ◌≤◌, ◌≡◌, List, [], ◌∷◌, map, true, false, ◌⊎◌, eqb, ltb, length}
-use Rattle.std.proofs.Math.Option.{none}
+use Rattle.std.specs.Prelude.{ℕ, ◌≤◌, ◌≡◌, List, [], ◌∷◌, map, true, false, ◌⊎◌, eqb, ltb, length, None}
 use Rattle.ack.specs.Take.{is_awaited, acknowledged}
 use Rattle.assign.specs.Assign.{with_report}
 use Rattle.buffer.specs.Pick.{pick}
@@ -23,7 +22,7 @@ use Rattle.calls.specs.Own.{unsent, report_of}
 unfoldable pub subscription_shown : List ℕ → List ℕ
 subscription_shown v =
     record_bytes 13
-    (write_by report_subscribe ((read_by report_subscribe v).0, (map decimal (ids_among (read_by report_subscribe v).1.0), (none, ([], tt)))))
+    (write_by report_subscribe ((read_by report_subscribe v).0, (map decimal (ids_among (read_by report_subscribe v).1.0), (None, ([], tt)))))
 
 -- behind the records of an acknowledgement: that of the last ReportSubscribe, and as it was where there is none
 unfoldable pub shown_after : List ℕ → List Tlv → List ℕ

@@ -1,14 +1,13 @@
 -- Laws of writing a capture: what its numbers, its rows and its trailer read as.
+use Rattle.std.specs.Prelude.{Some}
 use Prim.Native.Nat.{ℕ, ◌+◌, ◌*◌, ◌-◌, ◌≤◌}
 use mathlib.Core.Path.{◌≡◌, refl, sym, ap, ◌∙◌}
 use mathlib.Core.List.{List, [], ◌∷◌, ◌++◌, append_assoc}
 use native.Mathlib.Omega.{arith}
 use lib.ListN.{length, drop, length-append}
 use lib.Seq.{take-append_seam, drop-append_seam, drop_at}
-use Rattle.buffer.specs.declared.Stretch.TheVariants.{To}
-use Rattle.capture.specs.Read.{byte_at, wide16, wide32, entry_in, bytes_at, end_from, capture_in, entries_from}
+use Rattle.capture.specs.Read.{byte_at, wide16, wide32, entry_in, bytes_at, end_from, indexed, capture_in, entries_from}
 use Rattle.capture.specs.Write.{Item, bytes16, bytes32, datagrams, row_of, rows, written, items_from}
-use Rattle.capture.specs.declared.Capture.TheVariants.{Index}
 use Rattle.capture.specs.declared.Entry.{Entry}
 use Rattle.capture.proofs.Laws.{ends_more, ends-none, index-there, capture-is}
 
@@ -61,9 +60,9 @@ rows_long (i ∷ is) =
     omega arith
 
 -- the lengths of the rows sum to all datagrams
-pub ends-back : (is : List Item) (r : List ℕ) (at : ℕ) → end_from (length is) (rows is ++ r) at ≡ To (at + length (datagrams is))
+pub ends-back : (is : List Item) (r : List ℕ) (at : ℕ) → end_from (length is) (rows is ++ r) at ≡ Some (at + length (datagrams is))
 unfolding rows datagrams
-ends-back [] r at = ends-none r at ∙ ap To (omega arith)
+ends-back [] r at = ends-none r at ∙ ap Some (omega arith)
 ends-back (i ∷ is) r at =
     let n : at + length i.bytes + length (datagrams is) ≡ at + length (i.bytes ++ datagrams is) = simp length-append (omega arith) in
     rw (append_assoc (row_of i) (rows is) r, ends_more (length is) (row_of i ++ (rows is ++ r)) at (row_last i (rows is ++ r)), row-length i (rows is ++ r), row-behind i (rows is ++ r), ends-back is r (at + length i.bytes), n)
@@ -120,12 +119,12 @@ module _ (is : List Item) where
   unfolding written
   written-index = drop-append_seam (datagrams is) (rows is ++ trailer)
 
-  pub capture-back : length (written is) ≤ 65536 → capture_in (written is) ≡ Index (length (datagrams is)) (length is)
+  pub capture-back : length (written is) ≤ 65536 → capture_in (written is) ≡ indexed (length (datagrams is)) (length is)
   capture-back h =
       let n = written-long in
       let at : length (written is) - (length is * 8 + 6) ≡ length (datagrams is) = omega arith in
       let c = capture-is (written is) (omega arith) h {distance = length is * 8 + 6} {count = length is} refl (sym (wide32-back (length is * 8 + 6) (bytes16 (length is))) ∙ ap wide32 (sym written-trailer)) refl (sym (wide16-back (length is) []) ∙ ap wide16 (sym (ap (drop 4) written-trailer ∙ trailer-count))) refl (omega arith) in
-      (rw at at c) ∙ sym (index-there (written is) (length (datagrams is)) (length is) (sym written-index) refl (length (datagrams is)) (ends-back is trailer 0 ∙ ap To (omega arith)) refl)
+      (rw at at c) ∙ sym (index-there (written is) (length (datagrams is)) (length is) (sym written-index) refl (length (datagrams is)) (ends-back is trailer 0 ∙ ap Some (omega arith)) refl)
 
   pub written-items : items_from (written is) 0 (entries_from (length is) (drop (length (datagrams is)) (written is))) ≡ is
   unfolding written

@@ -1,11 +1,8 @@
 -- Reading a capture, document 01, "Capture and its listing".
-use Rattle.std.specs.Prelude.{ℕ, zero, suc, ◌+◌, ◌*◌, ◌-◌, List, [], ◌∷◌, Bool, ◌&&◌, eqb, leb, length, take, drop, get_or}
+use Rattle.std.specs.Prelude.{ℕ, zero, suc, ◌+◌, ◌*◌, ◌-◌, List, [], ◌∷◌, Bool, ◌&&◌, eqb, leb, length, take, drop, get_or, None, Option, Some}
 use Rattle.buffer.specs.Pick.{pick}
-use Rattle.buffer.specs.declared.Stretch.{Stretch}
-use Rattle.buffer.specs.declared.Stretch.TheVariants.{To, Outside}
-use Rattle.capture.specs.declared.Capture.{Capture}
-use Rattle.capture.specs.declared.Capture.TheVariants.{Index, Malformed}
 use Rattle.capture.specs.declared.Entry.{Entry}
+use Rattle.capture.specs.declared.Index.{Index}
 
 -- high bytes first; a byte that is not there counts as 0
 unfoldable pub byte_at : List ℕ → ℕ → ℕ
@@ -26,14 +23,18 @@ unfoldable pub bytes_at : List ℕ → ℕ → ℕ → List ℕ
 bytes_at s start len = take len (drop start s)
 
 -- where the datagrams of so many rows end, if each row's last byte is 0
-unfoldable pub end_from : ℕ → List ℕ → ℕ → Stretch
-end_from zero rows at = To at
-end_from (suc n) rows at = pick (eqb (byte_at rows 7) 0) (end_from n (drop 8 rows) (at + wide16 (drop 4 rows))) Outside
+unfoldable pub end_from : ℕ → List ℕ → ℕ → Option ℕ
+end_from zero rows at = Some at
+end_from (suc n) rows at = pick (eqb (byte_at rows 7) 0) (end_from n (drop 8 rows) (at + wide16 (drop 4 rows))) None
+
+-- a capture whose index begins at a place and has so many entries
+abbrev pub indexed : ℕ → ℕ → Option Index
+indexed at count = Some (record { at = at; count = count })
 
 -- lengths sum to the rest: the datagrams end where the index begins
-unfoldable pub index_in : ℕ → ℕ → Stretch → Capture
-index_in index count (To end) = pick (eqb end index) (Index index count) Malformed
-index_in index count Outside = Malformed
+unfoldable pub index_in : ℕ → ℕ → Option ℕ → Option Index
+index_in index count (Some end) = pick (eqb end index) (indexed index count) None
+index_in index count None = None
 
 -- a 6-byte trailer: u32 distance from the file's end back to the index, u16 count
 unfoldable pub trailer_of : List ℕ → List ℕ
@@ -50,21 +51,21 @@ unfoldable pub framed : List ℕ → Bool
 framed s =
     leb 6 (length s) && (leb (length s) 65536 && (eqb (distance_in s) (count_in s * 8 + 6) && leb (distance_in s) (length s)))
 
-unfoldable pub capture_in : List ℕ → Capture
+unfoldable pub capture_in : List ℕ → Option Index
 capture_in s =
     pick (framed s)
-    (index_in (length s - distance_in s) (count_in s) (end_from (count_in s) (drop (length s - distance_in s) s) 0)) Malformed
+    (index_in (length s - distance_in s) (count_in s) (end_from (count_in s) (drop (length s - distance_in s) s) 0)) None
 
 -- refusal 12: capture file malformed
-unfoldable pub outcome_of : Capture → ℕ
-outcome_of (Index index count) = 0
-outcome_of Malformed = 12
+unfoldable pub outcome_of : Option Index → ℕ
+outcome_of (Some index) = 0
+outcome_of None = 12
 
 -- the entries, in the index's order
 unfoldable pub entries_from : ℕ → List ℕ → List Entry
 entries_from zero rows = []
 entries_from (suc n) rows = entry_in rows ∷ entries_from n (drop 8 rows)
 
-unfoldable pub entries_of : List ℕ → Capture → List Entry
-entries_of s (Index index count) = entries_from count (drop index s)
-entries_of s Malformed = []
+unfoldable pub entries_of : List ℕ → Option Index → List Entry
+entries_of s (Some index) = entries_from index.count (drop index.at s)
+entries_of s None = []

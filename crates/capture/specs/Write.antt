@@ -1,8 +1,7 @@
 -- Writing a capture, and that it reads back, document 01, "Capture and its listing".
 use Rattle.std.specs.Prelude.{ℕ, ◌+◌, ◌*◌, ◌/◌, ◌%◌, ◌≤◌, ◌≡◌, List, [], ◌∷◌, ◌++◌, length}
 use Rattle.schedule.specs.declared.Point.{Point}
-use Rattle.capture.specs.Read.{bytes_at, capture_in, entries_of}
-use Rattle.capture.specs.declared.Capture.TheVariants.{Index}
+use Rattle.capture.specs.Read.{bytes_at, indexed, capture_in, entries_of}
 use Rattle.capture.specs.declared.Entry.{Entry}
 
 -- what an entry holds
@@ -47,4 +46,4 @@ items_of s = items_from s 0 (entries_of s (capture_in s))
 abbrev pub ReadsBack : Type 0
 ReadsBack =
     (is : List Item) → length (written is) ≤ 65536
-    → (capture_in (written is) ≡ Index (length (datagrams is)) (length is)) × (items_of (written is) ≡ is)
+    → (capture_in (written is) ≡ indexed (length (datagrams is)) (length is)) × (items_of (written is) ≡ is)

@@ -1,8 +1,8 @@
 -- What `specs/Statements.antt` states of frames: the laws, applied at the bytes that are written.
+use Rattle.std.specs.Prelude.{Some}
 use Prim.Native.Nat.{ℕ, ◌+◌, ◌*◌, ◌/◌, ◌%◌, ◌≤◌, ◌<◌}
 use mathlib.Core.Path.{◌≡◌, refl, ap, ap₂, ◌∙◌}
 use mathlib.Core.List.{List, [], ◌∷◌, ◌++◌, map}
-use mathlib.Core.Option.{some}
 use native.Mathlib.Omega.{arith}
 use lib.ListN.{length, get_or, drop}
 use Rattle.buffer.specs.Stretch.{stretch}
@@ -12,7 +12,6 @@ use Rattle.coap.specs.Frame.{empty_of, body_of, frame_of}
 use Rattle.coap.specs.Write.{reset, own_head}
 use Rattle.coap.specs.Statements.{Message, held, of_frame, of_datagram, message_of, format, to_path, RoundTrip}
 use Rattle.coap.specs.declared.CoapOption.{CoapOption}
-use Rattle.coap.specs.declared.Ending.TheVariants.{Payload as Begins}
 use Rattle.coap.proofs.Laws.{extended-plain, from-whole, at-end, at-marker, at_option, joined, options-option, options-payload}
 use Rattle.coap.proofs.Frames.{body-whole, frame-body}
 
@@ -28,10 +27,10 @@ module _ (s : List ℕ) (at before : ℕ) where
       options-option s at before _ (at_option s at before b (omega arith) e (λ z. omega arith) ∙ from-whole s b (at + 1) before _ _ delta n _ _ len _ value)
       ∙ ap (joined _) o
 
-  marked : 255 ≡ get_or s at 0 → at + 1 < length s → options s at before ≡ record { items = []; ending = Begins (at + 1) }
+  marked : 255 ≡ get_or s at 0 → at + 1 < length s → options s at before ≡ record { items = []; ending = Some (at + 1) }
   marked e h = options-payload s at before (at + 1) (at-marker s at before 255 (omega arith) e refl (λ z. omega arith))
 
-  ended : length s ≤ at → options s at before ≡ record { items = []; ending = Begins at }
+  ended : length s ≤ at → options s at before ≡ record { items = []; ending = Some at }
   ended h = options-payload s at before at (at-end s at before h)
 
 -- a datagram by its header, which says that there is no token
@@ -43,8 +42,8 @@ abbrev said : List ℕ → ℕ → ℕ → ℕ → List CoapOption → ℕ → M
 said s kind code id items p = record { kind = kind; code = code; id = id; options = map (held s) items; payload = drop p s }
 
 whole : (first code id p : ℕ) (rest : List ℕ) (items : List CoapOption) → first / 64 ≡ 1 → first % 16 ≡ 0 → 0 < code
-    → options (headed first code id rest) 4 0 ≡ record { items = items; ending = Begins p }
-    → message_of (headed first code id rest) ≡ some (said (headed first code id rest) (first / 16 % 4) code id items p)
+    → options (headed first code id rest) 4 0 ≡ record { items = items; ending = Some p }
+    → message_of (headed first code id rest) ≡ Some (said (headed first code id rest) (first / 16 % 4) code id items p)
 unfolding message_of of_frame payload_from
 whole first code id p rest items e t h o =
     let s = headed first code id rest in
@@ -53,17 +52,17 @@ whole first code id p rest items e t h o =
     let header = frame-body s first (omega arith) refl (id / 256) (id % 256) e refl refl in
     let token = ap (stretch (length s) 4) t ∙ stretch-to (length s) 4 0 (fits-true (length s) 4 0 (omega arith)) in
     let body = body-whole s kind code (id / 256 * 256 + id % 256) (first % 16) (λ z. omega arith) (omega arith) 4 token p (ap (λ (w : Options). w.ending) o) in
-    ap (of_datagram s) (header ∙ body) ∙ ap₂ (λ (i : ℕ) (w : Options). some (said s kind code i w.items p)) back o
+    ap (of_datagram s) (header ∙ body) ∙ ap₂ (λ (i : ℕ) (w : Options). Some (said s kind code i w.items p)) back o
 
-emptied : (id : ℕ) → message_of (reset id) ≡ some (record { kind = 3; code = 0; id = id; options = []; payload = [] })
+emptied : (id : ℕ) → message_of (reset id) ≡ Some (record { kind = 3; code = 0; id = id; options = []; payload = [] })
 unfolding message_of of_frame frame_of body_of empty_of
 emptied id =
     let back : id / 256 * 256 + id % 256 ≡ id = omega arith in
-    ap₂ (λ (i : ℕ) (w : Options). some (said (reset id) 3 0 i w.items 4)) back (ended (reset id) 4 0 (omega arith))
+    ap₂ (λ (i : ℕ) (w : Options). Some (said (reset id) 3 0 i w.items 4)) back (ended (reset id) 4 0 (omega arith))
 
 own : (first id letter b : ℕ) (rest : List ℕ) → first / 64 ≡ 1 → first % 16 ≡ 0
     → message_of (own_head first id letter ++ (b ∷ rest))
-    ≡ some (record { kind = first / 16 % 4; code = 2; id = id; options = to_path letter ∷ format ∷ []; payload = b ∷ rest })
+    ≡ Some (record { kind = first / 16 % 4; code = 2; id = id; options = to_path letter ∷ format ∷ []; payload = b ∷ rest })
 own first id letter b rest e t =
     let s = own_head first id letter ++ (b ∷ rest) in
     whole first 2 id 9 (drop 4 s) _ e t (omega arith)
@@ -73,7 +72,7 @@ own first id letter b rest e t =
 
 formatted : (first code id b : ℕ) (rest : List ℕ) → first / 64 ≡ 1 → first % 16 ≡ 0 → 0 < code
     → message_of (headed first code id (0xC1 ∷ 0x2A ∷ 0xFF ∷ b ∷ rest))
-    ≡ some (record { kind = first / 16 % 4; code = code; id = id; options = format ∷ []; payload = b ∷ rest })
+    ≡ Some (record { kind = first / 16 % 4; code = code; id = id; options = format ∷ []; payload = b ∷ rest })
 formatted first code id b rest e t h =
     let s = headed first code id (0xC1 ∷ 0x2A ∷ 0xFF ∷ b ∷ rest) in
     whole first code id 7 (drop 4 s) _ e t h

@@ -8,7 +8,6 @@ ghost use Rattle.std.specs.Prelude.{◌≡◌, length};
 ghost use Rattle.coap.specs.Option.{extended, option_at, option_from, payload_from};
 ghost use Rattle.coap.specs.Frame.{frame_of, body_of, empty_of};
 
-use buffer::Stretch;
 pub use write::{put_answer, put_registration, put_reply, put_report, put_reset};
 
 // The codes of replies: 2.01, 2.05, and 4.00 to 4.05.
@@ -28,13 +27,6 @@ pub const NOT_FOUND: u8 = 132;
 
 pub const NOT_ALLOWED: u8 = 133;
 
-// An option's delta or length, and where the bytes after it begin.
-#[derive(Clone, Copy)]
-pub enum Extended {
-    Value(u64, usize),
-    Malformed,
-}
-
 // An option: its number, and its value from `start` up to `end`, where the next option begins.
 #[derive(Clone, Copy)]
 pub struct CoapOption {
@@ -48,14 +40,6 @@ pub struct CoapOption {
 pub enum Next {
     Option(CoapOption),
     Payload(usize),
-    Malformed,
-}
-
-// Where the payload begins.
-#[derive(Clone, Copy)]
-pub enum Ending {
-    Payload(usize),
-    Malformed,
 }
 
 // A well-formed frame. Its options begin at `options`, its payload at `payload`.
@@ -68,127 +52,115 @@ pub struct Frame {
     pub payload: usize,
 }
 
-// A datagram: a frame; one with a format error, of which the type and the message id are still known; or one
+// A datagram that is no frame: one with a format error, of which the type and the message id are still known; or one
 // too short for a header or of another version.
 #[derive(Clone, Copy)]
-pub enum Datagram {
-    Frame(Frame),
+pub enum FrameError {
     Malformed(u8, u16),
     Foreign,
 }
 
-// A nibble of 13 or 14 has one or two bytes more; 15 is reserved.
-fn extend(s: &[u8], nibble: u64, at: usize) -> Extended
+// An option's delta or length, and where the bytes after it begin: a nibble of 13 or 14 has one or two bytes more; 15 is reserved.
+#[tactic(auto, unfolding(crate::specs::Option::extended, buffer::specs::Stretch::fits))]
+fn extend(s: &[u8], nibble: u8, at: usize) -> Option<(u64, usize)>
     ensures { result ≡ extended s.now nibble at }
 {
-    if nibble < 13 {
-        return Extended::Value(nibble, at);
-    }
-    if nibble == 13 {
-        if buffer::has_room(s.len(), at, 1) {
-            return Extended::Value(buffer::wide(s[at]) + 13, at + 1);
+    match nibble {
+        0..=12 => Some((u64::from(nibble), at)),
+        13 => {
+            let more = *s.get(at)?;
+            Some((u64::from(more) + 13, at + 1))
         }
-        return Extended::Malformed;
-    }
-    if nibble == 14 {
-        if buffer::has_room(s.len(), at, 2) {
-            return Extended::Value(
-                buffer::wide(s[at]) * 256 + buffer::wide(s[at + 1]) + 269,
-                at + 2,
-            );
+        14 => {
+            let high = *s.get(at)?;
+            let low = *s.get(at + 1)?;
+            Some((u64::from(high) * 256 + u64::from(low) + 269, at + 2))
         }
+        _ => None,
     }
-    Extended::Malformed
 }
 
-// What stands at `at`, behind an option of the number `before`.
-pub fn option_at(s: &[u8], at: usize, before: u64) -> Next
+// What stands at `at`, behind an option of the number `before`, if it can be read.
+#[tactic(auto, unfolding(crate::specs::Option::option_at))]
+pub fn option_at(s: &[u8], at: usize, before: u64) -> Option<Next>
     ensures { result ≡ option_at s.now at before }
 {
-    if s.len() <= at {
-        return Next::Payload(at);
-    }
-    let b = buffer::wide(s[at]);
+    let Some(&b) = s.get(at) else {
+        return Some(Next::Payload(at));
+    };
     if b == 255 {
         if s.len() - at == 1 {
-            return Next::Malformed;
+            return None;
         }
-        return Next::Payload(at + 1);
+        return Some(Next::Payload(at + 1));
     }
     numbered(s, b, at + 1, before)
 }
 
 // An option whose first byte is `b`, the others from `at` on: a number above 65,535 is a format error.
-fn numbered(s: &[u8], b: u64, at: usize, before: u64) -> Next
+#[tactic(auto, unfolding(crate::specs::Option::option_from, crate::specs::Option::of_delta, crate::specs::Option::of_length, crate::specs::Option::of_stretch))]
+fn numbered(s: &[u8], b: u8, at: usize, before: u64) -> Option<Next>
     ensures { result ≡ option_from s.now b at before }
 {
-    let Extended::Value(delta, mid) = extend(s, b / 16, at) else {
-        return Next::Malformed;
-    };
+    let (delta, mid) = extend(s, b / 16, at)?;
     if 65535 < before {
-        return Next::Malformed;
+        return None;
     }
     if 65535 - before < delta {
-        return Next::Malformed;
+        return None;
     }
-    let Extended::Value(len, start) = extend(s, b % 16, mid) else {
-        return Next::Malformed;
-    };
-    let Stretch::To(end) = buffer::end_of(s, start, len) else {
-        return Next::Malformed;
-    };
-    Next::Option(CoapOption {
+    let (len, start) = extend(s, b % 16, mid)?;
+    let end = buffer::end_of(s, start, len)?;
+    Some(Next::Option(CoapOption {
         number: before + delta,
         start,
         end,
-    })
+    }))
 }
 
 // Where the payload begins, behind options from `at` on.
-fn payload_from(s: &[u8], from: usize) -> Ending
+#[tactic(auto, using(crate::proofs::Laws::ending_steps), unfolding(crate::specs::Option::payload_from))]
+fn payload_from(s: &[u8], from: usize) -> Option<usize>
     ensures { result ≡ payload_from s.now from }
 {
     let mut at = from;
     let mut before = 0;
     loop {
-        match option_at(s, at, before) {
+        match option_at(s, at, before)? {
             Next::Option(o) => {
                 at = o.end;
                 before = o.number;
             }
             Next::Payload(p) => {
-                return Ending::Payload(p);
-            }
-            Next::Malformed => {
-                return Ending::Malformed;
+                return Some(p);
             }
         }
     }
 }
 
 // The frame of a datagram.
-pub fn read(s: &[u8]) -> Datagram
+#[tactic(auto, unfolding(crate::specs::Frame::frame_of))]
+pub fn read(s: &[u8]) -> Result<Frame, FrameError>
     ensures { result ≡ frame_of s.now }
 {
-    if s.len() < 4 {
-        return Datagram::Foreign;
+    let &[first, code, high, low, ..] = s else {
+        return Err(FrameError::Foreign);
+    };
+    if first / 64 != 1 {
+        return Err(FrameError::Foreign);
     }
-    let b = buffer::wide(s[0]);
-    if b / 64 != 1 {
-        return Datagram::Foreign;
-    }
-    let kind = (b / 16 % 4) as u8;
-    let id = (buffer::wide(s[2]) * 256 + buffer::wide(s[3])) as u16;
-    body(s, kind, s[1], id, b % 16)
+    let id = u16::from_be_bytes([high, low]);
+    body(s, first / 16 % 4, code, id, first % 16)
 }
 
 // An empty message has nothing behind its header.
-fn empty(s: &[u8], kind: u8, id: u16, token: u64) -> Datagram
+#[tactic(auto, unfolding(crate::specs::Frame::empty_of))]
+fn empty(s: &[u8], kind: u8, id: u16, token: u8) -> Result<Frame, FrameError>
     ensures { result ≡ empty_of (length s.now) kind id token }
 {
     if s.len() == 4 {
         if token == 0 {
-            return Datagram::Frame(Frame {
+            return Ok(Frame {
                 kind,
                 code: 0,
                 id,
@@ -197,26 +169,24 @@ fn empty(s: &[u8], kind: u8, id: u16, token: u64) -> Datagram
             });
         }
     }
-    Datagram::Malformed(kind, id)
+    Err(FrameError::Malformed(kind, id))
 }
 
 // The rest of the frame: the token is passed over.
-fn body(s: &[u8], kind: u8, code: u8, id: u16, token: u64) -> Datagram
+#[tactic(auto, unfolding(crate::specs::Frame::body_of, crate::specs::Frame::of_token, crate::specs::Frame::of_ending))]
+fn body(s: &[u8], kind: u8, code: u8, id: u16, token: u8) -> Result<Frame, FrameError>
     ensures { result ≡ body_of s.now kind code id token }
 {
     if code == 0 {
         return empty(s, kind, id, token);
     }
+    let malformed = FrameError::Malformed(kind, id);
     if 8 < token {
-        return Datagram::Malformed(kind, id);
+        return Err(malformed);
     }
-    let Stretch::To(options) = buffer::end_of(s, 4, token) else {
-        return Datagram::Malformed(kind, id);
-    };
-    let Ending::Payload(payload) = payload_from(s, options) else {
-        return Datagram::Malformed(kind, id);
-    };
-    Datagram::Frame(Frame {
+    let options = buffer::end_of(s, 4, u64::from(token)).ok_or(malformed)?;
+    let payload = payload_from(s, options).ok_or(malformed)?;
+    Ok(Frame {
         kind,
         code,
         id,

@@ -6,46 +6,31 @@ ghost use Rattle.coap.specs.Write.{reset, reply_head, own_head, registration_hea
 pub fn put_reset(out: &mut [u8], at: usize, id: u16) -> usize
     ensures { Put out.old at (reset id) out.new result }
 {
-    let head = [0x70, 0, (id / 256) as u8, (id % 256) as u8];
-    buffer::put(out, at, &head)
+    let [high, low] = id.to_be_bytes();
+    buffer::put(out, at, &[0x70, 0, high, low])
 }
 
 // Appends the head of an acknowledgement: where a payload follows, option 12 = 42 and the marker.
 pub fn put_reply(out: &mut [u8], at: usize, code: u8, id: u16, filled: bool) -> usize
     ensures { Put out.old at (reply_head filled code id) out.new result }
 {
+    let [high, low] = id.to_be_bytes();
     if filled {
-        let head = [
-            0x60,
-            code,
-            (id / 256) as u8,
-            (id % 256) as u8,
-            0xC1,
-            0x2A,
-            0xFF,
-        ];
-        return buffer::put(out, at, &head);
+        return buffer::put(out, at, &[0x60, code, high, low, 0xC1, 0x2A, 0xFF]);
     }
-    let head = [0x60, code, (id / 256) as u8, (id % 256) as u8];
-    buffer::put(out, at, &head)
+    buffer::put(out, at, &[0x60, code, high, low])
 }
 
 // Appends the head of a POST of the agent's own, of that first byte, to the path of that one letter.
 fn put_own(out: &mut [u8], at: usize, first: u8, id: u16, segment: u8) -> usize
     ensures { Put out.old at (own_head first id segment) out.new result }
 {
-    let head = [
-        first,
-        2,
-        (id / 256) as u8,
-        (id % 256) as u8,
-        0xB1,
-        segment,
-        0x11,
-        0x2A,
-        0xFF,
-    ];
-    buffer::put(out, at, &head)
+    let [high, low] = id.to_be_bytes();
+    buffer::put(
+        out,
+        at,
+        &[first, 2, high, low, 0xB1, segment, 0x11, 0x2A, 0xFF],
+    )
 }
 
 // Appends the head of a registration: a CON POST to `r`.
@@ -66,14 +51,6 @@ pub fn put_report(out: &mut [u8], at: usize, id: u16) -> usize
 pub fn put_answer(out: &mut [u8], at: usize, id: u16) -> usize
     ensures { Put out.old at (answer_head id) out.new result }
 {
-    let head = [
-        0x50,
-        2,
-        (id / 256) as u8,
-        (id % 256) as u8,
-        0xC1,
-        0x2A,
-        0xFF,
-    ];
-    buffer::put(out, at, &head)
+    let [high, low] = id.to_be_bytes();
+    buffer::put(out, at, &[0x50, 2, high, low, 0xC1, 0x2A, 0xFF])
 }

@@ -1,4 +1,5 @@
 -- Laws of copying: appending in pieces, and the chosen records from a position on.
+use Rattle.std.specs.Prelude.{None, Some}
 use Prim.Native.Nat.{ℕ, suc, ◌+◌, ◌-◌, ◌≤◌, ◌<◌}
 use mathlib.Core.Path.{◌≡◌, refl, sym, ◌∙◌}
 use mathlib.Core.List.{List, [], ◌∷◌, ◌++◌, append-nil, append_assoc}
@@ -15,7 +16,6 @@ use Rattle.buffer.proofs.Tests.{head}
 use Rattle.buffer.proofs.Puts.{appended-put, appended-none, appended-most, appended-join}
 use Rattle.tlv.specs.Record.{record_at, records_from}
 use Rattle.tlv.specs.declared.Record.{Record}
-use Rattle.tlv.specs.declared.Taken.TheVariants.{Record as Whole, Unreadable}
 use Rattle.tlv.proofs.Laws.{records-end, records-more, records-unreadable}
 use Rattle.copy.specs.Shown.{is_own, is_hidden, source_of, chosen, copies_from, copies, shown_of, shown_all}
 use Rattle.copy.specs.declared.Choice.{Choice}
@@ -116,17 +116,17 @@ module _ (s : List ℕ) (c : Choice) where
   unfolding copies_at copies_from
   copies-end at h = rw (records-end s at h)
 
-  pub copies-unreadable : (at : ℕ) → at < length s → record_at s at ≡ Unreadable → copies_at s c at ≡ []
+  pub copies-unreadable : (at : ℕ) → at < length s → record_at s at ≡ None → copies_at s c at ≡ []
   unfolding copies_at copies_from
   copies-unreadable at h e = rw (records-unreadable s at h e)
 
-  pub copies-more : (at : ℕ) (r : Record) → record_at s at ≡ Whole r
+  pub copies-more : (at : ℕ) (r : Record) → record_at s at ≡ Some r
       → copies_at s c at ≡ pick (chosen c r.kind) (take (r.end - at) (drop at s)) [] ++ copies_at s c r.end
   unfolding copies_at copies_from
   copies-more at r e = rw (records-more s at r e)
 
   -- one record further
-  pub going-record : {out₀ : List ℕ} {at₀ : ℕ} {all out : List ℕ} {end : ℕ} {left : List ℕ} {n : ℕ} (at : ℕ) (r : Record) (wanted : Bool) → record_at s at ≡ Whole r
+  pub going-record : {out₀ : List ℕ} {at₀ : ℕ} {all out : List ℕ} {end : ℕ} {left : List ℕ} {n : ℕ} (at : ℕ) (r : Record) (wanted : Bool) → record_at s at ≡ Some r
       → wanted ≡ chosen c r.kind → Going out₀ at₀ all out end (copies_at s c at)
       → Appended out end (pick wanted (take (r.end - at) (drop at s)) []) left n
       → Going out₀ at₀ all left n (copies_at s c r.end)

@@ -8,7 +8,6 @@ ghost use Rattle.decimal.specs.Ids.{held};
 ghost use Rattle.copy.specs.Shown.{is_own, is_hidden, source_of, chosen, copies, shown_of, shown_all};
 
 use decimal::Ids;
-use tlv::Taken;
 
 // Which records are copied: those of an id, or all others.
 #[derive(Clone, Copy)]
@@ -78,7 +77,7 @@ pub fn copy_records(s: &[u8], choice: Choice, out: &mut [u8], at: usize) -> usiz
     let mut end = buffer::put(out, at, b"");
     let mut start = 0;
     while start < s.len() {
-        let Taken::Record(r) = tlv::take_record(s, start) else {
+        let Some(r) = tlv::take_record(s, start) else {
             return end;
         };
         let stop = r.end;

@@ -1,39 +1,34 @@
 -- What the values of messages share: numbers that are times, sizes, and bytes that are compared.
-use Rattle.std.specs.Prelude.{ℕ, ◌-◌, List, Bool, true, take, drop, leb}
+use Rattle.std.specs.Prelude.{ℕ, ◌-◌, List, Bool, true, take, drop, leb, None, Option, Some}
 use Rattle.buffer.specs.Same.{same_bytes}
-use Rattle.protobuf.specs.declared.Bytes.{Bytes}
-use Rattle.protobuf.specs.declared.Bytes.TheVariants.{At, Absent as NoBytes}
-use Rattle.protobuf.specs.declared.Number.{Number}
-use Rattle.protobuf.specs.declared.Number.TheVariants.{Given, Absent}
-use Rattle.schedule.specs.declared.Moment.{Moment}
-use Rattle.schedule.specs.declared.Moment.TheVariants.{At as On, Absent as Never}
-use Rattle.schedule.specs.declared.Interval.{Interval}
-use Rattle.schedule.specs.declared.Interval.TheVariants.{Every, Absent as NoInterval}
+use Rattle.protobuf.specs.declared.Span.{Span}
+use Rattle.schedule.specs.declared.Length.{Length}
+use Rattle.schedule.specs.declared.Point.{Point}
 
 -- a number that is a point, and one that is a length
-unfoldable pub moment_of : Number → Moment
-moment_of (Given t) = On (record { 0 = t })
-moment_of Absent = Never
+unfoldable pub moment_of : Option ℕ → Option Point
+moment_of (Some t) = Some (record { 0 = t })
+moment_of None = None
 
-unfoldable pub interval_of : Number → Interval
-interval_of (Given t) = Every (record { 0 = t })
-interval_of Absent = NoInterval
+unfoldable pub interval_of : Option ℕ → Option Length
+interval_of (Some t) = Some (record { 0 = t })
+interval_of None = None
 
 -- a point and a length as numbers
-unfoldable pub moment_number : Moment → Number
-moment_number (On p) = Given p.0
-moment_number Never = Absent
+unfoldable pub moment_number : Option Point → Option ℕ
+moment_number (Some p) = Some p.0
+moment_number None = None
 
-unfoldable pub interval_number : Interval → Number
-interval_number (Every l) = Given l.0
-interval_number NoInterval = Absent
+unfoldable pub interval_number : Option Length → Option ℕ
+interval_number (Some l) = Some l.0
+interval_number None = None
 
 -- "over its size" speaks of the value that counts
-unfoldable pub at_most : ℕ → Bytes → Bool
-at_most n (At start stop) = leb (stop - start) n
-at_most n NoBytes = true
+unfoldable pub at_most : ℕ → Option Span → Bool
+at_most n (Some x) = leb (x.end - x.start) n
+at_most n None = true
 
 -- whether a field holds these bytes, with an answer for an absent field
-unfoldable pub field_is : List ℕ → List ℕ → Bool → Bytes → Bool
-field_is bytes s absent (At start stop) = same_bytes bytes (take (stop - start) (drop start s))
-field_is bytes s absent NoBytes = absent
+unfoldable pub field_is : List ℕ → List ℕ → Bool → Option Span → Bool
+field_is bytes s absent (Some x) = same_bytes bytes (take (x.end - x.start) (drop x.start s))
+field_is bytes s absent None = absent

@@ -4,6 +4,7 @@
 mod rows;
 mod values;
 
+use buffer::Text;
 pub use rows::{
     GROUP_ID, GROUP_TYPE, IMAGE_FILE_HASH, IMAGE_INDEX, IMAGE_LOAD_TIME, INTERVAL, SESSION_ID,
     TLV_IDS, group, image_block, image_hash, load_request, redirect, report_subscribe, session,
@@ -12,11 +13,7 @@ pub use rows::{
 pub use values::{at_most, field_is, interval, interval_number, moment, moment_number};
 
 // A session id.
-#[derive(Clone, Copy)]
-pub struct SessionId {
-    pub bytes: [u8; 64],
-    pub len: usize,
-}
+pub type SessionId = Text<64>;
 
 // A file name that may be missing.
 #[derive(Clone, Copy)]

@@ -2,52 +2,52 @@
 ghost use Rattle.std.specs.Prelude.{◌≡◌};
 ghost use Rattle.csmp.specs.Values.{moment_of, interval_of, moment_number, interval_number, at_most, field_is};
 
-use protobuf::{Bytes, Number};
-use schedule::{Interval, Length, Moment, Point};
+use protobuf::Span;
+use schedule::{Length, Point};
 
 // A number that is a point, and one that is a length.
-pub fn moment(n: Number) -> Moment
+pub fn moment(n: Option<u32>) -> Option<Point>
     ensures { result ≡ moment_of n }
 {
-    let Number::Given(t) = n else {
-        return Moment::Absent;
+    let Some(t) = n else {
+        return None;
     };
-    Moment::At(Point(t))
+    Some(Point(t))
 }
 
-pub fn interval(n: Number) -> Interval
+pub fn interval(n: Option<u32>) -> Option<Length>
     ensures { result ≡ interval_of n }
 {
-    let Number::Given(t) = n else {
-        return Interval::Absent;
+    let Some(t) = n else {
+        return None;
     };
-    Interval::Every(Length(t))
+    Some(Length(t))
 }
 
 // A point, and a length, as the number that is written.
-pub fn moment_number(m: Moment) -> Number
+pub fn moment_number(m: Option<Point>) -> Option<u32>
     ensures { result ≡ moment_number m }
 {
-    let Moment::At(p) = m else {
-        return Number::Absent;
+    let Some(p) = m else {
+        return None;
     };
-    Number::Given(p.0)
+    Some(p.0)
 }
 
-pub fn interval_number(i: Interval) -> Number
+pub fn interval_number(i: Option<Length>) -> Option<u32>
     ensures { result ≡ interval_number i }
 {
-    let Interval::Every(l) = i else {
-        return Number::Absent;
+    let Some(l) = i else {
+        return None;
     };
-    Number::Given(l.0)
+    Some(l.0)
 }
 
 // Whether bytes, if there are any, are at most so many.
-pub fn at_most(b: Bytes, most: usize) -> bool
+pub fn at_most(b: Option<Span>, most: usize) -> bool
     ensures { result ≡ at_most most b }
 {
-    let Bytes::At(start, end) = b else {
+    let Some(Span { start, end }) = b else {
         return true;
     };
     if end < start {
@@ -57,10 +57,10 @@ pub fn at_most(b: Bytes, most: usize) -> bool
 }
 
 // Whether a field holds these bytes; `absent` is the answer where there is no such field.
-pub fn field_is(bytes: &[u8], s: &[u8], place: Bytes, absent: bool) -> bool
+pub fn field_is(bytes: &[u8], s: &[u8], place: Option<Span>, absent: bool) -> bool
     ensures { result ≡ field_is bytes.now s.now absent place }
 {
-    let Bytes::At(start, end) = place else {
+    let Some(Span { start, end }) = place else {
         return absent;
     };
     buffer::same(bytes, buffer::part(s, start, end))

@@ -1,4 +1,6 @@
 -- Laws of decimal spellings, one step each.
+use Rattle.std.specs.Prelude.{None, Option, Some, nat_eq, slice_get}
+use Rattle.std.proofs.Common.{inl, inr}
 use Prim.Native.Nat.{ℕ, zero, suc, ◌+◌, ◌*◌, ◌-◌, ◌/◌, ◌%◌, ◌^◌, ◌≤◌, ◌<◌}
 use mathlib.Core.Path.{◌≡◌, refl, ap, ◌∙◌}
 use mathlib.Core.List.{List, [], ◌∷◌}
@@ -7,22 +9,26 @@ use native.Mathlib.Numerals.{add-one}
 use native.Mathlib.Omega.{arith}
 use borrow.Author.Tests.{lt-ltb, le-ltb, eq-eqb, ne_eqb, le-leb, lt-leb}
 use lib.Dec.{ltb}
-use lib.ListN.{length, get_or, drop, set}
+use lib.ListN.{length, get_or, drop, drop_of_length-le, set}
 use lib.Seq.{drop-cons, sets, set_comm}
+use Rattle.std.specs.Bool.{then_some}
+use Rattle.std.specs.Char.{IsAsciiDigit, IsNotAsciiDigit}
 use Rattle.buffer.specs.Pick.{pick}
 use Rattle.decimal.specs.Decimal.{all_digits, spelt, digits_of, zero_or, id_of, digits_before}
 use Rattle.decimal.specs.Ids.{pushed}
 use Rattle.decimal.specs.declared.Ids.{Ids}
-use Rattle.decimal.specs.declared.Id.{Id}
-use Rattle.decimal.specs.declared.Id.TheVariants.{Given, Nothing}
 
 -- what digits worth v and the text behind them say
-abbrev pub behind : ℕ → List ℕ → Id
-behind v s = pick (all_digits s) (pick (ltb (spelt v s) (2 ^ 32)) (Given (spelt v s)) Nothing) Nothing
+unfoldable pub behind : ℕ → List ℕ → Option ℕ
+behind v s = pick (all_digits s) (pick (ltb (spelt v s) (2 ^ 32)) (Some (spelt v s)) None) None
 
-pub behind-end : (v : ℕ) → v < 2 ^ 32 → behind v [] ≡ Given v
-unfolding all_digits spelt
-behind-end v h = rw (lt-ltb v (2 ^ 32) h)
+pub behind-start : (s : List ℕ) → digits_of s ≡ behind 0 (drop 0 s)
+unfolding behind digits_of
+behind-start s = refl
+
+pub behind-end : (s : List ℕ) (i v : ℕ) → length s ≤ i → v < 2 ^ 32 → behind v (drop i s) ≡ Some v
+unfolding behind all_digits spelt
+behind-end s i v h l = rw (drop_of_length-le s {i = i} h, lt-ltb v (2 ^ 32) l)
 
 -- a number only grows with its digits
 grows : (s : List ℕ) (v : ℕ) → v ≤ spelt v s
@@ -30,27 +36,25 @@ unfolding spelt
 grows [] v = omega arith
 grows (b ∷ s) v = let h = grows s (v * 10 + (b - 48)) in omega arith
 
-module _ (s : List ℕ) (i b v : ℕ) (h : i < length s) (e : b ≡ get_or s i 0) where
-  from : drop i s ≡ b ∷ drop (i + 1) s
-  from = rw (add-one, e, drop-cons s i 0)
+module _ (s : List ℕ) (i v : ℕ) (h : i < length s) where
+  from : drop i s ≡ get_or s i 0 ∷ drop (i + 1) s
+  from = rw (add-one, drop-cons s i 0 h)
 
-  pub behind-low : b < 48 → behind v (drop i s) ≡ Nothing
-  unfolding all_digits spelt
-  behind-low k = rw (from, lt-ltb b 48 k)
+  pub behind-other : IsNotAsciiDigit (get_or s i 0) → behind v (drop i s) ≡ None
+  unfolding behind all_digits spelt
+  behind-other (inl k) = rw (from, lt-ltb (get_or s i 0) 48 k)
+  behind-other (inr k) = rw (from, le-ltb (get_or s i 0) 48 (omega arith), lt-ltb 57 (get_or s i 0) k)
 
-  pub behind-high : 48 ≤ b → 57 < b → behind v (drop i s) ≡ Nothing
-  unfolding all_digits spelt
-  behind-high k l = rw (from, le-ltb b 48 k, lt-ltb 57 b l)
-
-  pub behind-digit : 48 ≤ b → b ≤ 57 → behind v (drop i s) ≡ behind (v * 10 + (b - 48)) (drop (i + 1) s)
-  unfolding all_digits spelt
-  behind-digit k l = rw (from, le-ltb b 48 k, le-ltb 57 b l)
+  pub behind-digit : IsAsciiDigit (get_or s i 0) → behind v (drop i s) ≡ behind (v * 10 + (get_or s i 0 - 48)) (drop (i + 1) s)
+  unfolding behind all_digits spelt
+  behind-digit k = rw (from, le-ltb (get_or s i 0) 48 k.0, le-ltb 57 (get_or s i 0) k.1)
 
 -- a number of 2^32 or more stays one
-pub behind-large : (v : ℕ) (s : List ℕ) → 2 ^ 32 ≤ v → behind v s ≡ Nothing
+pub behind-large : (v : ℕ) (s : List ℕ) → 2 ^ 32 ≤ v → behind v s ≡ None
+unfolding behind
 behind-large v s h = rw (le-ltb (spelt v s) (2 ^ 32) (let g = grows s v in omega arith)) (go (all_digits s))
   where
-    go : (t : Bool) → pick t Nothing Nothing ≡ Nothing
+    go : (t : Bool) → pick {A = Option ℕ} t None None ≡ None
     go true = refl
     go false = refl
 
@@ -114,28 +118,24 @@ pub stored : (known o out : List ℕ) (i d : ℕ) → out ≡ sets o (i + 1) kno
 stored known o out i d e =
     rw e (set_before known o (i + 1) i d (omega arith) ∙ ap (λ (k : ℕ). sets (set o i d) k known) (add-one i))
 
--- an id, by the length of its text and its first byte
-pub id-empty : (s : List ℕ) → length s ≡ 0 → id_of s ≡ Nothing
+-- an id, by its text's first byte
+pub id-empty : (s : List ℕ) → slice_get s 0 ≡ None → id_of s ≡ None
 unfolding id_of
 id-empty [] h = refl
-id-empty (b ∷ s) h = absurd (omega arith)
+id-empty (b ∷ s) h = let z : ◌≡◌ {A = ℕ} 0 1 = cc in absurd (omega arith)
 
-pub id-zero : (s : List ℕ) → get_or s 0 0 ≡ 48 → length s ≡ 1 → id_of s ≡ Given 0
+pub id-zero : (s : List ℕ) (b : ℕ) → slice_get s 0 ≡ Some b → b ≡ 48 → id_of s ≡ then_some (nat_eq (length s) 1) 0
 unfolding id_of zero_or
-id-zero [] e h = absurd (omega arith)
-id-zero (b ∷ []) e h = rw (eq-eqb b 48 e)
-id-zero (b ∷ d ∷ s) e h = absurd (omega arith)
+id-zero [] b h e = let z : ◌≡◌ {A = ℕ} 0 1 = cc in absurd (omega arith)
+id-zero (a ∷ []) b h e = let f : a ≡ 48 = cc in rw (eq-eqb a 48 f)
+id-zero (a ∷ d ∷ s) b h e =
+    let f : a ≡ 48 = cc in
+    rw (eq-eqb a 48 f, ne_eqb (length (a ∷ d ∷ s)) 1 (λ z. omega arith))
 
-pub id-padded : (s : List ℕ) → get_or s 0 0 ≡ 48 → (length s ≡ 1 → ⊥) → id_of s ≡ Nothing
-unfolding id_of zero_or
-id-padded [] e h = refl
-id-padded (b ∷ []) e h = absurd (h refl)
-id-padded (b ∷ d ∷ s) e h = rw (eq-eqb b 48 e)
-
-pub id-digits : (s : List ℕ) → (length s ≡ 0 → ⊥) → (get_or s 0 0 ≡ 48 → ⊥) → id_of s ≡ digits_of s
+pub id-digits : (s : List ℕ) (b : ℕ) → slice_get s 0 ≡ Some b → (b ≡ 48 → ⊥) → id_of s ≡ digits_of s
 unfolding id_of
-id-digits [] h e = absurd (h refl)
-id-digits (b ∷ s) h e = rw (ne_eqb b 48 e)
+id-digits [] b h e = let z : ◌≡◌ {A = ℕ} 0 1 = cc in absurd (omega arith)
+id-digits (a ∷ s) b h e = rw (ne_eqb a 48 (λ f. e (cc)))
 
 -- one id more, or none where the list is full
 pub push-full : (ids : Ids) (v : ℕ) → 32 ≤ ids.count → pushed ids v ≡ ids
@@ -145,3 +145,8 @@ push-full ids v h = rw (le-leb 32 ids.count h)
 pub push-more : (ids : Ids) (v : ℕ) → ids.count < 32 → pushed ids v ≡ record { list = set ids.list ids.count v; count = ids.count + 1 }
 unfolding pushed
 push-more ids v h = rw (lt-leb 32 ids.count h)
+
+-- an id, case by case, and digits, step by step
+pub ruleset id_steps = (id-empty, id-zero, id-digits)
+
+pub ruleset digit_steps = (behind-start, behind-other, behind-digit, behind-large, behind-end)

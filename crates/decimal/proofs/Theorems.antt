@@ -1,17 +1,17 @@
 -- What `specs/Statements.antt` states of decimal ids.
+use Rattle.std.specs.Prelude.{None, Some}
 use Prim.Native.Nat.{ℕ, zero, suc, ◌+◌, ◌*◌, ◌-◌, ◌/◌, ◌%◌, ◌^◌, ◌≤◌, ◌<◌}
 use mathlib.Core.Path.{◌≡◌, refl, sym, ap, ap₂, ◌∙◌}
 use mathlib.Core.List.{List, [], ◌∷◌, ◌++◌, append-nil}
 use mathlib.Core.Bool.{Bool, true, false, false≢true}
 use native.Mathlib.Omega.{arith}
-use borrow.Author.Tests.{le-ltb, ltb-true, ltb-false, ne_eqb, eqb-true, eqb-false}
+use borrow.Author.Tests.{lt-ltb, le-ltb, ltb-true, ltb-false, ne_eqb, eqb-true, eqb-false}
 use lib.Dec.{ltb, eqb}
 use lib.Arith.{lt_of_le-ne}
 use Rattle.buffer.specs.Pick.{pick}
 use Rattle.decimal.specs.Decimal.{all_digits, spelt, digits_of, zero_or, id_of, digits_before, decimal}
 use Rattle.decimal.specs.Statements.{RoundTrip}
-use Rattle.decimal.specs.declared.Id.TheVariants.{Given, Nothing}
-use Rattle.decimal.proofs.Laws.{bound, behind-end, digits-end, digits_more}
+use Rattle.decimal.proofs.Laws.{bound, digits-end, digits_more}
 
 -- the digits written before others are digits, and spell the number behind whatever stands before them
 pub all-written : (k v : ℕ) (known : List ℕ) → v < bound k → all_digits (digits_before k v known) ≡ all_digits known
@@ -64,13 +64,13 @@ leads (suc k) v known z = go (ltb v 10) refl (λ (y : 0 < v / 10). leads k (v / 
     go true e ih = rw (ne_eqb (48 + v) 48 (λ y. omega arith))
     go false e ih = ih (let l = ltb-false v 10 e in omega arith)
 
-back_some : (v : ℕ) → 0 < v → v < 2 ^ 32 → id_of (decimal v) ≡ Given v
-unfolding decimal digits_of
+back_some : (v : ℕ) → 0 < v → v < 2 ^ 32 → id_of (decimal v) ≡ Some v
+unfolding decimal digits_of all_digits spelt
 back_some v z h =
     let l : v < bound 9 = omega arith in
-    leads 9 v [] z ∙ rw (all-written 9 v [] l, spelt-written 9 v [] l) (behind-end v h)
+    leads 9 v [] z ∙ rw (all-written 9 v [] l, spelt-written 9 v [] l, lt-ltb v (2 ^ 32) h)
 
-back : (v : ℕ) → v < 2 ^ 32 → id_of (decimal v) ≡ Given v
+back : (v : ℕ) → v < 2 ^ 32 → id_of (decimal v) ≡ Some v
 unfolding decimal digits_before id_of zero_or
 back zero h = refl
 back (suc v) h = back_some (suc v) (omega arith) h
@@ -97,14 +97,14 @@ respells b s n a h =
     r.2 ∙ digits-end r.0 (0 * 10 + (b - 48)) (s ++ []) (omega (arith, d.1)) ∙ ap₂ ◌∷◌ (omega (arith, d.0)) (append-nil s)
 
 unchanged-digits : (b : ℕ) (s : List ℕ) (v : ℕ) → (b ≡ 48 → ⊥) → (t u : Bool) → all_digits (b ∷ s) ≡ t → ltb (spelt 0 (b ∷ s)) (2 ^ 32) ≡ u
-    → pick t (pick u (Given (spelt 0 (b ∷ s))) Nothing) Nothing ≡ Given v → decimal v ≡ b ∷ s
+    → pick t (pick u (Some (spelt 0 (b ∷ s))) None) None ≡ Some v → decimal v ≡ b ∷ s
 unchanged-digits b s v n true true a l e =
     let x : spelt 0 (b ∷ s) ≡ v = cc in
     ap decimal (sym x) ∙ respells b s n a (ltb-true (spelt 0 (b ∷ s)) (2 ^ 32) l)
 unchanged-digits b s v n true false a l e = let z : ◌≡◌ {A = ℕ} 0 1 = cc in absurd (omega arith)
 unchanged-digits b s v n false u a l e = let z : ◌≡◌ {A = ℕ} 0 1 = cc in absurd (omega arith)
 
-unchanged-first : (b : ℕ) (s : List ℕ) (v : ℕ) (t : Bool) → eqb b 48 ≡ t → pick t (zero_or s) (digits_of (b ∷ s)) ≡ Given v → decimal v ≡ b ∷ s
+unchanged-first : (b : ℕ) (s : List ℕ) (v : ℕ) (t : Bool) → eqb b 48 ≡ t → pick t (zero_or s) (digits_of (b ∷ s)) ≡ Some v → decimal v ≡ b ∷ s
 unfolding zero_or digits_of
 unchanged-first b [] v true e h =
     let x : 0 ≡ v = cc in
@@ -112,7 +112,7 @@ unchanged-first b [] v true e h =
 unchanged-first b (d ∷ s) v true e h = let z : ◌≡◌ {A = ℕ} 0 1 = cc in absurd (omega arith)
 unchanged-first b s v false e h = unchanged-digits b s v (eqb-false b 48 e) (all_digits (b ∷ s)) (ltb (spelt 0 (b ∷ s)) (2 ^ 32)) refl refl h
 
-unchanged : (s : List ℕ) (v : ℕ) → id_of s ≡ Given v → decimal v ≡ s
+unchanged : (s : List ℕ) (v : ℕ) → id_of s ≡ Some v → decimal v ≡ s
 unfolding id_of
 unchanged [] v e = let z : ◌≡◌ {A = ℕ} 0 1 = cc in absurd (omega arith)
 unchanged (b ∷ s) v e = unchanged-first b s v (eqb b 48) refl e

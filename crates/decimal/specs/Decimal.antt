@@ -1,8 +1,6 @@
 -- Decimal ids, document 01, step b: an id is 0 or a decimal without leading zero, below 2^32.
-use Rattle.std.specs.Prelude.{ℕ, zero, suc, ◌+◌, ◌*◌, ◌-◌, ◌/◌, ◌%◌, ◌^◌, ◌<◌, List, [], ◌∷◌, Bool, true, false, eqb, ltb}
+use Rattle.std.specs.Prelude.{ℕ, zero, suc, ◌+◌, ◌*◌, ◌-◌, ◌/◌, ◌%◌, ◌^◌, ◌<◌, List, [], ◌∷◌, Bool, true, false, eqb, ltb, None, Option, Some}
 use Rattle.buffer.specs.Pick.{pick}
-use Rattle.decimal.specs.declared.Id.{Id}
-use Rattle.decimal.specs.declared.Id.TheVariants.{Given, Nothing}
 
 -- a number that is an id
 abbrev pub IsId : ℕ → Type 0
@@ -18,17 +16,17 @@ unfoldable pub spelt : ℕ → List ℕ → ℕ
 spelt v [] = v
 spelt v (b ∷ s) = spelt (v * 10 + (b - 48)) s
 
-unfoldable pub digits_of : List ℕ → Id
-digits_of s = pick (all_digits s) (pick (ltb (spelt 0 s) (2 ^ 32)) (Given (spelt 0 s)) Nothing) Nothing
+unfoldable pub digits_of : List ℕ → Option ℕ
+digits_of s = pick (all_digits s) (pick (ltb (spelt 0 s) (2 ^ 32)) (Some (spelt 0 s)) None) None
 
 -- a leading 0 stands alone
-unfoldable pub zero_or : List ℕ → Id
-zero_or [] = Given 0
-zero_or (b ∷ s) = Nothing
+unfoldable pub zero_or : List ℕ → Option ℕ
+zero_or [] = Some 0
+zero_or (b ∷ s) = None
 
 -- the id that a text spells, if it spells one
-unfoldable pub id_of : List ℕ → Id
-id_of [] = Nothing
+unfoldable pub id_of : List ℕ → Option ℕ
+id_of [] = None
 id_of (b ∷ s) = pick (eqb b 48) (zero_or s) (digits_of (b ∷ s))
 
 -- the digits of a number, the last ones being known; k more may stand before the next
@@ -41,9 +39,9 @@ unfoldable pub decimal : ℕ → List ℕ
 decimal v = digits_before 9 v []
 
 -- the ids among texts, in order
-unfoldable pub id_then : Id → List ℕ → List ℕ
-id_then (Given i) ids = i ∷ ids
-id_then Nothing ids = ids
+unfoldable pub id_then : Option ℕ → List ℕ → List ℕ
+id_then (Some i) ids = i ∷ ids
+id_then None ids = ids
 
 unfoldable pub ids_among : List (List ℕ) → List ℕ
 ids_among [] = []

@@ -7,50 +7,32 @@ ghost use Rattle.buffer.specs.Stretch.{fits};
 ghost use Rattle.decimal.specs.Decimal.{id_of, digits_of, decimal};
 ghost use Rattle.decimal.specs.Ids.{no_ids, pushed};
 
-// What a text says.
-#[derive(Clone, Copy)]
-pub enum Id {
-    Given(u32),
-    Nothing,
-}
-
-// The id that the whole of `s` spells.
-pub fn read(s: &[u8]) -> Id
+// The id that the whole of `s` spells, if it spells one.
+#[tactic(auto, using(crate::proofs::Laws::id_steps))]
+pub fn read(s: &[u8]) -> Option<u32>
     ensures { result ≡ id_of s.now }
 {
-    if s.len() == 0 {
-        return Id::Nothing;
-    }
-    if s[0] == 48 {
-        if s.len() == 1 {
-            return Id::Given(0);
-        }
-        return Id::Nothing;
+    let first = s.first()?;
+    // A leading zero stands alone.
+    if *first == b'0' {
+        return (s.len() == 1).then_some(0);
     }
     digits(s)
 }
 
 // The number that digits spell.
-fn digits(s: &[u8]) -> Id
+#[tactic(auto, using(crate::proofs::Laws::digit_steps))]
+fn digits(s: &[u8]) -> Option<u32>
     ensures { result ≡ digits_of s.now }
 {
-    let mut value: u64 = 0;
-    let mut i = 0;
-    while i < s.len() {
-        let b = buffer::wide(s[i]);
-        if b < 48 {
-            return Id::Nothing;
+    let mut value: u32 = 0;
+    for &b in s {
+        if !b.is_ascii_digit() {
+            return None;
         }
-        if 57 < b {
-            return Id::Nothing;
-        }
-        value = value * 10 + (b - 48);
-        if 4294967295 < value {
-            return Id::Nothing;
-        }
-        i += 1;
+        value = value.checked_mul(10)?.checked_add(u32::from(b - b'0'))?;
     }
-    Id::Given(value as u32)
+    Some(value)
 }
 
 // How many digits `v` has.
@@ -101,24 +83,26 @@ pub struct Ids {
     pub count: usize,
 }
 
-pub fn no_ids() -> Ids
-    ensures { result ≡ no_ids }
-{
-    Ids {
-        list: [0; 32],
-        count: 0,
+impl Ids {
+    pub fn empty() -> Ids
+        ensures { result ≡ no_ids }
+    {
+        Ids {
+            list: [0; 32],
+            count: 0,
+        }
     }
-}
 
-// One id more, where there is a place for it.
-pub fn push(ids: Ids, id: u32) -> Ids
-    ensures { result ≡ pushed ids id }
-{
-    let n = ids.count;
-    if 32 <= n {
-        return ids;
+    // One id more, where there is a place for it.
+    #[tactic(auto, unfolding(crate::specs::Ids::pushed))]
+    pub fn push(mut self, id: u32) -> Ids
+        ensures { result ≡ pushed self id }
+    {
+        if 32 <= self.count {
+            return self;
+        }
+        self.list[self.count] = id;
+        self.count += 1;
+        self
     }
-    let mut list = ids.list;
-    list[n] = id;
-    Ids { list, count: n + 1 }
 }

@@ -1,7 +1,6 @@
 -- What is proved of these readers, beyond the functions' contracts: each reads its message by its table, by name.
-use Rattle.std.specs.Prelude.{ℕ, ◌≡◌, List, [], ◌∷◌, map, ◌&&◌}
-use Rattle.std.proofs.Math.Option.{Option, none, some}
-use Rattle.protobuf.specs.Given.{number_given, flag_given, bytes_given}
+use Rattle.std.specs.Prelude.{ℕ, ◌≡◌, List, [], ◌∷◌, map, ◌&&◌, None, Option, Some}
+use Rattle.protobuf.specs.Given.{bytes_given}
 use Rattle.tables.specs.Table.{readable, padded, read_by}
 use Rattle.csmp.specs.Named.{moment_given, short, Sample, alone, flagged}
 use Rattle.csmp.specs.Tables.{redirect, session, group, signature_validity, signature}
@@ -12,7 +11,7 @@ pub record RedirectRead (v : List ℕ) : Type 0 where
   pub reading : (redirect_of v).reading.readable ≡ (readable redirect v && short 128 (read_by redirect v).0)
   pub padding : (redirect_of v).reading.padded ≡ padded redirect v
   pub url : bytes_given v (redirect_of v).url ≡ (read_by redirect v).0
-  pub immediate : flag_given (redirect_of v).immediate ≡ (read_by redirect v).1.0
+  pub immediate : (redirect_of v).immediate ≡ (read_by redirect v).1.0
 
 -- 7 SessionID
 pub record SessionRead (v : List ℕ) : Type 0 where
@@ -24,8 +23,8 @@ pub record SessionRead (v : List ℕ) : Type 0 where
 pub record GroupRead (v : List ℕ) : Type 0 where
   pub reading : (group_of v).reading.readable ≡ readable group v
   pub padding : (group_of v).reading.padded ≡ padded group v
-  pub type : number_given (group_of v).kind ≡ (read_by group v).0
-  pub id : number_given (group_of v).id ≡ (read_by group v).1.0
+  pub type : (group_of v).kind ≡ (read_by group v).0
+  pub id : (group_of v).id ≡ (read_by group v).1.0
 
 -- 76 SignatureValidity
 pub record ValidityRead (v : List ℕ) : Type 0 where
@@ -74,25 +73,25 @@ abbrev pub signature_cut : List ℕ
 signature_cut = 0x0A ∷ 0x02 ∷ 0x73 ∷ []
 
 abbrev pub redirect_shown : List ℕ → List (Option (List ℕ))
-redirect_shown v = bytes_given v (redirect_of v).url ∷ flagged (flag_given (redirect_of v).immediate) ∷ []
+redirect_shown v = bytes_given v (redirect_of v).url ∷ flagged (redirect_of v).immediate ∷ []
 
 abbrev pub group_shown : List ℕ → List (Option (List ℕ))
-group_shown v = alone (number_given (group_of v).kind) ∷ alone (number_given (group_of v).id) ∷ []
+group_shown v = alone (group_of v).kind ∷ alone (group_of v).id ∷ []
 
 unfoldable pub samples : List Sample
 samples =
-    record { is = redirect_shown redirect_sample; should = some (0x75 ∷ []) ∷ some (1 ∷ []) ∷ [] }
-    ∷ record { is = redirect_shown redirect_again; should = some (0x77 ∷ []) ∷ some (0 ∷ []) ∷ [] }
-    ∷ record { is = bytes_given session_sample (session_of session_sample).id ∷ []; should = some (0x61 ∷ 0x62 ∷ []) ∷ [] }
-    ∷ record { is = group_shown group_sample; should = some (1 ∷ []) ∷ some (300 ∷ []) ∷ [] }
-    ∷ record { is = group_shown group_without; should = none ∷ none ∷ [] }
+    record { is = redirect_shown redirect_sample; should = Some (0x75 ∷ []) ∷ Some (1 ∷ []) ∷ [] }
+    ∷ record { is = redirect_shown redirect_again; should = Some (0x77 ∷ []) ∷ Some (0 ∷ []) ∷ [] }
+    ∷ record { is = bytes_given session_sample (session_of session_sample).id ∷ []; should = Some (0x61 ∷ 0x62 ∷ []) ∷ [] }
+    ∷ record { is = group_shown group_sample; should = Some (1 ∷ []) ∷ Some (300 ∷ []) ∷ [] }
+    ∷ record { is = group_shown group_without; should = None ∷ None ∷ [] }
     ∷ record {
       is = alone (moment_given (validity_of validity_sample).not_before) ∷ alone (moment_given (validity_of validity_sample).not_after) ∷ [];
-      should = some (5 ∷ []) ∷ some (6 ∷ []) ∷ [];
+      should = Some (5 ∷ []) ∷ Some (6 ∷ []) ∷ [];
     }
     ∷ record {
-      is = flagged (some (signature_of signature_sample).readable) ∷ flagged (some (signature_of signature_cut).readable) ∷ [];
-      should = some (1 ∷ []) ∷ some (0 ∷ []) ∷ [];
+      is = flagged (Some (signature_of signature_sample).readable) ∷ flagged (Some (signature_of signature_cut).readable) ∷ [];
+      should = Some (1 ∷ []) ∷ Some (0 ∷ []) ∷ [];
     }
     ∷ []
 

@@ -1,4 +1,5 @@
 -- Laws of the readers: what the code finds by the numbers of a table is what the table says, by name.
+use Rattle.std.specs.Prelude.{Option}
 use Prim.Native.Nat.{ℕ}
 use mathlib.Core.Path.{◌≡◌}
 use mathlib.Core.List.{List}
@@ -10,15 +11,14 @@ use Rattle.tables.proofs.Theorems.{told-by, found-by}
 use Rattle.csmp.specs.Tables.{transfer_request, image_block, load_request, image_hash}
 use Rattle.csmp.specs.Values.{moment_of}
 use Rattle.csmp.proofs.Formed.{image-hash-formed, load-request-formed, image-block-formed, transfer-request-formed}
-use Rattle.protobuf.specs.declared.Bytes.{Bytes}
-use Rattle.protobuf.specs.declared.Number.{Number}
-use Rattle.schedule.specs.declared.Moment.{Moment}
 use Rattle.decode_image.specs.Read.{transfer_of, block_of, load_of, hash_of}
+use Rattle.protobuf.specs.declared.Span.{Span}
+use Rattle.schedule.specs.declared.Point.{Point}
 
 -- 69, 70
 module _ (v : List ℕ) {table cells left : List ℕ} {r : Reading} (p : table ≡ rows_of image_hash) (q : cells ≡ cells_of image_hash (none_found image_hash))
     (x : Scanned (read_into table cells v) r left) where
-  pub hash-by : {hash : Bytes}
+  pub hash-by : {hash : Option Span}
       → hash ≡ place_of (get_or left 0 0) (get_or left 1 0) (get_or left 2 0)
       → record { reading = r; hash = hash } ≡ hash_of v
   unfolding hash_of cells_of held_cells
@@ -27,7 +27,7 @@ module _ (v : List ℕ) {table cells left : List ℕ} {r : Reading} (p : table �
 -- 68
 module _ (v : List ℕ) {table cells left : List ℕ} {r : Reading} (p : table ≡ rows_of load_request) (q : cells ≡ cells_of load_request (none_found load_request))
     (x : Scanned (read_into table cells v) r left) where
-  pub load-by : {hash : Bytes} {time : Moment}
+  pub load-by : {hash : Option Span} {time : Option Point}
       → hash ≡ place_of (get_or left 0 0) (get_or left 1 0) (get_or left 2 0)
       → time ≡ moment_of (number_of (get_or left 3 0) (get_or left 4 0))
       → record { reading = r; hash = hash; time = time } ≡ load_of v
@@ -37,7 +37,7 @@ module _ (v : List ℕ) {table cells left : List ℕ} {r : Reading} (p : table �
 -- 67
 module _ (v : List ℕ) {table cells left : List ℕ} {r : Reading} (p : table ≡ rows_of image_block) (q : cells ≡ cells_of image_block (none_found image_block))
     (x : Scanned (read_into table cells v) r left) where
-  pub block-by : {hash : Bytes} {number : Number} {block : Bytes}
+  pub block-by : {hash : Option Span} {number : Option ℕ} {block : Option Span}
       → hash ≡ place_of (get_or left 0 0) (get_or left 1 0) (get_or left 2 0)
       → number ≡ number_of (get_or left 3 0) (get_or left 4 0)
       → block ≡ place_of (get_or left 6 0) (get_or left 7 0) (get_or left 8 0)
@@ -48,7 +48,7 @@ module _ (v : List ℕ) {table cells left : List ℕ} {r : Reading} (p : table �
 -- 65
 module _ (v : List ℕ) {table cells left : List ℕ} {r : Reading} (p : table ≡ rows_of transfer_request) (q : cells ≡ cells_of transfer_request (none_found transfer_request))
     (x : Scanned (read_into table cells v) r left) where
-  pub transfer-by : {hw-id : Bytes} {vendor-hw-id : Bytes} {hash : Bytes} {name : Bytes} {version : Bytes} {size : Number} {block-size : Number}
+  pub transfer-by : {hw-id : Option Span} {vendor-hw-id : Option Span} {hash : Option Span} {name : Option Span} {version : Option Span} {size : Option ℕ} {block-size : Option ℕ}
       → hw-id ≡ place_of (get_or left 3 0) (get_or left 4 0) (get_or left 5 0)
       → vendor-hw-id ≡ place_of (get_or left 6 0) (get_or left 7 0) (get_or left 8 0)
       → hash ≡ place_of (get_or left 9 0) (get_or left 10 0) (get_or left 11 0)

@@ -1,8 +1,8 @@
 -- What `specs/Statements.antt` states.
+use Rattle.std.specs.Prelude.{None, Option, Some}
 use Prim.Native.Nat.{ℕ}
 use mathlib.Core.Path.{◌≡◌, refl, ◌∙◌}
 use mathlib.Core.List.{List}
-use mathlib.Core.Option.{Option, none, some}
 use Rattle.buffer.specs.Stretch.{fits, stretch}
 use Rattle.buffer.specs.Walk.{walk_for, walk}
 use Rattle.varint.specs.Varint.{more, spelt, varint_at, of_stretch, of_length, delimited_at}
@@ -24,8 +24,8 @@ use Rattle.decode_image.specs.Statements.{TransferRead, BlockRead, LoadRead, Has
 hardware-read : (v : List ℕ) (c : Cell × Found hardware_info) (m : Option (Values hardware_info)) → Tells v (message hardware_info) c m
     → (bytes_given v (bytes_in c.1.0.0) ≡ in_part (λ (h : Values hardware_info). h.0) m) × (bytes_given v (bytes_in c.1.1.0.0) ≡ in_part (λ (h : Values hardware_info). h.1.0) m)
 unfolding none_found none_held place_of
-hardware-read v c none h = (rw h.1, rw h.1)
-hardware-read v c (some m) h = (h.1.0, h.1.1.0)
+hardware-read v c None h = (rw h.1, rw h.1)
+hardware-read v c (Some m) h = (h.1.0, h.1.1.0)
 
 transfer-read : (v : List ℕ) → TransferRead v
 unfolding transfer_of

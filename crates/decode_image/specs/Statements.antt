@@ -1,7 +1,6 @@
 -- What is proved of these readers, beyond the functions' contracts: each reads its message by its table, by name.
-use Rattle.std.specs.Prelude.{ℕ, ◌≡◌, List, [], ◌∷◌, ◌++◌, map, Bool, true, false}
-use Rattle.std.proofs.Math.Option.{Option, none, some}
-use Rattle.protobuf.specs.Given.{number_given, bytes_given}
+use Rattle.std.specs.Prelude.{ℕ, ◌≡◌, List, [], ◌∷◌, ◌++◌, map, Bool, true, false, None, Option, Some}
+use Rattle.protobuf.specs.Given.{bytes_given}
 use Rattle.tables.specs.Table.{Table, readable, padded, read_by}
 use Rattle.csmp.specs.Named.{moment_given, in_part, Sample, alone, sample_hash}
 use Rattle.csmp.specs.Tables.{transfer_request, image_block, load_request, image_hash}
@@ -16,15 +15,15 @@ pub record TransferRead (v : List ℕ) : Type 0 where
   pub file_hash : bytes_given v (transfer_of v).hash ≡ (read_by transfer_request v).1.0
   pub file_name : bytes_given v (transfer_of v).name ≡ (read_by transfer_request v).1.1.0
   pub version : bytes_given v (transfer_of v).version ≡ (read_by transfer_request v).1.1.1.0
-  pub file_size : number_given (transfer_of v).size ≡ (read_by transfer_request v).1.1.1.1.0
-  pub block_size : number_given (transfer_of v).block_size ≡ (read_by transfer_request v).1.1.1.1.1.0
+  pub file_size : (transfer_of v).size ≡ (read_by transfer_request v).1.1.1.1.0
+  pub block_size : (transfer_of v).block_size ≡ (read_by transfer_request v).1.1.1.1.1.0
 
 -- 67 ImageBlock
 pub record BlockRead (v : List ℕ) : Type 0 where
   pub reading : (block_of v).reading.readable ≡ readable image_block v
   pub padding : (block_of v).reading.padded ≡ padded image_block v
   pub file_hash : bytes_given v (block_of v).hash ≡ (read_by image_block v).0
-  pub block_num : number_given (block_of v).number ≡ (read_by image_block v).1.0
+  pub block_num : (block_of v).number ≡ (read_by image_block v).1.0
   pub block_data : bytes_given v (block_of v).«data» ≡ (read_by image_block v).1.1.0
 
 -- 68 LoadRequest
@@ -72,31 +71,31 @@ hash_sample = (0x0A ∷ 0x20 ∷ []) ++ sample_hash
 abbrev pub transfer_shown : List ℕ → List (Option (List ℕ))
 transfer_shown v =
     bytes_given v (transfer_of v).hw_id ∷ bytes_given v (transfer_of v).vendor_hw_id ∷ bytes_given v (transfer_of v).hash
-    ∷ bytes_given v (transfer_of v).name ∷ bytes_given v (transfer_of v).version ∷ alone (number_given (transfer_of v).size)
-    ∷ alone (number_given (transfer_of v).block_size) ∷ []
+    ∷ bytes_given v (transfer_of v).name ∷ bytes_given v (transfer_of v).version ∷ alone (transfer_of v).size
+    ∷ alone (transfer_of v).block_size ∷ []
 
 unfoldable pub samples : List Sample
 samples =
     record {
       is = transfer_shown transfer_sample;
       should =
-          some (0x68 ∷ []) ∷ some (0x76 ∷ []) ∷ some sample_hash ∷ some (0x6E ∷ []) ∷ some (0x72 ∷ []) ∷ some (1000 ∷ []) ∷ some (64 ∷ []) ∷ [];
+          Some (0x68 ∷ []) ∷ Some (0x76 ∷ []) ∷ Some sample_hash ∷ Some (0x6E ∷ []) ∷ Some (0x72 ∷ []) ∷ Some (1000 ∷ []) ∷ Some (64 ∷ []) ∷ [];
     }
     ∷ record {
       is = transfer_shown transfer_in_parts;
-      should = some (0x6B ∷ []) ∷ some (0x76 ∷ []) ∷ none ∷ none ∷ none ∷ none ∷ some (0 ∷ []) ∷ [];
+      should = Some (0x6B ∷ []) ∷ Some (0x76 ∷ []) ∷ None ∷ None ∷ None ∷ None ∷ Some (0 ∷ []) ∷ [];
     }
     ∷ record {
       is =
-          bytes_given block_sample (block_of block_sample).hash ∷ alone (number_given (block_of block_sample).number)
+          bytes_given block_sample (block_of block_sample).hash ∷ alone (block_of block_sample).number
           ∷ bytes_given block_sample (block_of block_sample).«data» ∷ [];
-      should = some sample_hash ∷ some (5 ∷ []) ∷ some (0x61 ∷ 0x62 ∷ []) ∷ [];
+      should = Some sample_hash ∷ Some (5 ∷ []) ∷ Some (0x61 ∷ 0x62 ∷ []) ∷ [];
     }
     ∷ record {
       is = bytes_given load_sample (load_of load_sample).hash ∷ alone (moment_given (load_of load_sample).time) ∷ [];
-      should = some sample_hash ∷ some (100 ∷ []) ∷ [];
+      should = Some sample_hash ∷ Some (100 ∷ []) ∷ [];
     }
-    ∷ record { is = bytes_given hash_sample (hash_of hash_sample).hash ∷ []; should = some sample_hash ∷ [] }
+    ∷ record { is = bytes_given hash_sample (hash_of hash_sample).hash ∷ []; should = Some sample_hash ∷ [] }
     ∷ []
 
 abbrev pub Samples : Type 0

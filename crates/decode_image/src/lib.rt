@@ -6,44 +6,44 @@ ghost use Rattle.std.specs.Prelude.{◌≡◌, []};
 ghost use Rattle.decode_image.specs.Read.{transfer_of, block_of, load_of, hash_of};
 
 use message::Reading;
-use protobuf::{Bytes, Number};
-use schedule::Moment;
+use protobuf::Span;
+use schedule::Point;
 
 // TransferRequest, record 65.
 #[derive(Clone, Copy)]
 pub struct Transfer {
     pub reading: Reading,
-    pub hw_id: Bytes,
-    pub vendor_hw_id: Bytes,
-    pub hash: Bytes,
-    pub name: Bytes,
-    pub version: Bytes,
-    pub size: Number,
-    pub block_size: Number,
+    pub hw_id: Option<Span>,
+    pub vendor_hw_id: Option<Span>,
+    pub hash: Option<Span>,
+    pub name: Option<Span>,
+    pub version: Option<Span>,
+    pub size: Option<u32>,
+    pub block_size: Option<u32>,
 }
 
 // ImageBlock, record 67.
 #[derive(Clone, Copy)]
 pub struct Block {
     pub reading: Reading,
-    pub hash: Bytes,
-    pub number: Number,
-    pub data: Bytes,
+    pub hash: Option<Span>,
+    pub number: Option<u32>,
+    pub data: Option<Span>,
 }
 
 // LoadRequest, record 68.
 #[derive(Clone, Copy)]
 pub struct Load {
     pub reading: Reading,
-    pub hash: Bytes,
-    pub time: Moment,
+    pub hash: Option<Span>,
+    pub time: Option<Point>,
 }
 
 // CancelLoadRequest and SetBackupRequest, records 69 and 70.
 #[derive(Clone, Copy)]
 pub struct ImageHash {
     pub reading: Reading,
-    pub hash: Bytes,
+    pub hash: Option<Span>,
 }
 
 pub fn read_transfer(v: &[u8]) -> Transfer
@@ -95,9 +95,9 @@ pub fn no_block() -> Block
     let reading = message::empty();
     Block {
         reading,
-        hash: Bytes::Absent,
-        number: Number::Absent,
-        data: Bytes::Absent,
+        hash: None,
+        number: None,
+        data: None,
     }
 }
 

@@ -1,4 +1,5 @@
 -- What the code finds by the numbers of ReportSubscribe's table is what the table says, by name.
+use Rattle.std.specs.Prelude.{Option}
 use Prim.Native.Nat.{ℕ}
 use mathlib.Core.Path.{◌≡◌}
 use mathlib.Core.List.{List}
@@ -14,13 +15,13 @@ use Rattle.tables.proofs.Theorems.{told-by, found-by}
 use Rattle.csmp.specs.Tables.{report_subscribe}
 use Rattle.csmp.specs.Values.{interval_of}
 use Rattle.csmp.proofs.Formed.{report-subscribe-formed}
-use Rattle.schedule.specs.declared.Interval.{Interval}
 use Rattle.decode_report.specs.Report.{listed_in, few, report_of}
+use Rattle.schedule.specs.declared.Length.{Length}
 
 -- 13
 module _ (v : List ℕ) {table cells left : List ℕ} {r : Reading} (p : table ≡ rows_of report_subscribe) (q : cells ≡ cells_of report_subscribe (none_found report_subscribe))
     (x : Scanned (read_into table cells v) r left) where
-  pub report-by : {reading : Reading} {interval : Interval} {ids : Ids}
+  pub report-by : {reading : Reading} {interval : Option Length} {ids : Ids}
       → reading ≡ limited r (leb (get_or left 3 0) 32 && leb (get_or left 9 0) 32)
       → interval ≡ interval_of (number_of (get_or left 0 0) (get_or left 1 0))
       → ids ≡ listed_in v

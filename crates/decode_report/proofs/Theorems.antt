@@ -1,4 +1,5 @@
 -- What `specs/Statements.antt` states.
+use Rattle.std.specs.Prelude.{None, Option, Some}
 use Prim.Native.Nat.{ℕ, ◌+◌, ◌≤◌, ◌<◌}
 use mathlib.Core.Path.{◌≡◌, refl, sym, ap, ap₂, ◌∙◌}
 use mathlib.Core.List.{List, [], ◌∷◌, ◌++◌, append-nil}
@@ -19,8 +20,6 @@ use Rattle.buffer.proofs.Tests.{split, both}
 use Rattle.decimal.proofs.Laws.{push-more}
 use Rattle.decimal.specs.Decimal.{all_digits, spelt as digits, digits_of, zero_or, id_of, id_then, ids_among}
 use Rattle.decimal.specs.Ids.{no_ids, pushed, held}
-use Rattle.decimal.specs.declared.Id.{Id}
-use Rattle.decimal.specs.declared.Id.TheVariants.{Given as Spells, Nothing}
 use Rattle.decimal.specs.declared.Ids.{Ids}
 use Rattle.tables.specs.Found.{Cell, none_held, none_found, placed, cell_with, each_in, held_with, found_with, found_in}
 use Rattle.tables.specs.Statements.{counted}
@@ -34,16 +33,16 @@ use Rattle.decode_report.specs.Report.{with_id, with_entry, with_entries, few, r
 use Rattle.decode_report.specs.Statements.{ReadByTable, samples, Samples}
 
 -- a list of ids that has a place keeps an id behind the others
-kept : (ids : Ids) (r : Id) (rest : List ℕ) → length ids.list ≡ 32 → ids.count < 32
+kept : (ids : Ids) (r : Option ℕ) (rest : List ℕ) → length ids.list ≡ 32 → ids.count < 32
     → (length (with_id ids r).list ≡ 32) × ((with_id ids r).count ≤ ids.count + 1) × (held (with_id ids r) ++ rest ≡ held ids ++ id_then r rest)
 unfolding with_id id_then
-kept ids (Spells i) rest l h =
+kept ids (Some i) rest l h =
     rw (push-more ids i h) (
       length-set ids.list ids.count i ∙ l,
       omega arith,
       rw (add-one, take-suc-set ids.list ids.count i (omega arith)) (append_snoc (held ids) i rest),
     )
-kept ids Nothing rest l h = (l, omega arith, refl)
+kept ids None rest l h = (l, omega arith, refl)
 
 -- those of the texts left follow those that are held, where there is a place for each
 listed-behind : (ts : List (List ℕ)) (ids : Ids) → length ids.list ≡ 32 → ids.count + length ts ≤ 32 → held (with_entries ids ts) ≡ held ids ++ ids_among ts

@@ -1,10 +1,8 @@
 -- The reader of record 13, ReportSubscribe: what the walk by its table tells of a value, and its fields by the rows of the table.
-use Rattle.std.specs.Prelude.{ℕ, List, [], ◌∷◌, Bool, ◌&&◌, leb}
+use Rattle.std.specs.Prelude.{ℕ, List, [], ◌∷◌, Bool, ◌&&◌, leb, None, Option, Some}
 use Rattle.decimal.specs.Decimal.{id_of}
 use Rattle.decimal.specs.Ids.{no_ids, pushed}
 use Rattle.decimal.specs.declared.Ids.{Ids}
-use Rattle.decimal.specs.declared.Id.{Id}
-use Rattle.decimal.specs.declared.Id.TheVariants.{Given as Spells, Nothing}
 use Rattle.message.specs.Read.{limited}
 use Rattle.message.specs.declared.Reading.{Reading}
 use Rattle.tables.specs.Table.{strings, Values, content_of, contents, value_of, read_by}
@@ -15,9 +13,9 @@ use Rattle.protobuf.specs.declared.Field.{Field}
 use Rattle.decode_report.specs.declared.Report.{Report}
 
 -- entries of a list that are no decimal ids are ignored
-unfoldable pub with_id : Ids → Id → Ids
-with_id ids (Spells v) = pushed ids v
-with_id ids Nothing = ids
+unfoldable pub with_id : Ids → Option ℕ → Ids
+with_id ids (Some v) = pushed ids v
+with_id ids None = ids
 
 unfoldable pub with_entry : Ids → List ℕ → Ids
 with_entry ids text = with_id ids (id_of text)

@@ -1,6 +1,5 @@
 -- What is proved of this reader, beyond the functions' contracts: it reads ReportSubscribe by its table, by name.
-use Rattle.std.specs.Prelude.{ℕ, ◌≡◌, List, [], ◌∷◌, ◌++◌, map, true, ◌&&◌, length, replicate, leb}
-use Rattle.std.proofs.Math.Option.{Option, none, some}
+use Rattle.std.specs.Prelude.{ℕ, ◌≡◌, List, [], ◌∷◌, ◌++◌, map, true, ◌&&◌, length, replicate, leb, None, Option, Some}
 use Rattle.decimal.specs.Decimal.{ids_among}
 use Rattle.decimal.specs.Ids.{held}
 use Rattle.protobuf.specs.Write.{each}
@@ -39,22 +38,22 @@ times n tag = each (λ (e : List ℕ). e) (replicate n (tag ∷ 0x00 ∷ []))
 -- whether it can be read, the interval, the ids
 abbrev pub report_told : List ℕ → List (Option (List ℕ))
 report_told v =
-    flagged (some (report_of v).reading.readable) ∷ alone (interval_given (report_of v).interval) ∷ some (held (report_of v).ids) ∷ []
+    flagged (Some (report_of v).reading.readable) ∷ alone (interval_given (report_of v).interval) ∷ Some (held (report_of v).ids) ∷ []
 
 -- a cut field 3 makes it unreadable, and so does a 33rd entry of either list; one of another wire type, or of field 5, does not
 unfoldable pub samples : List Sample
 samples =
-    record { is = report_told report_sample; should = some (1 ∷ []) ∷ some (60 ∷ []) ∷ some (11 ∷ []) ∷ [] }
-    ∷ record { is = report_told report_ignored; should = some (1 ∷ []) ∷ none ∷ some (11 ∷ 7 ∷ []) ∷ [] }
-    ∷ record { is = report_told heartbeat_alone; should = some (1 ∷ []) ∷ none ∷ some [] ∷ [] }
-    ∷ record { is = report_told (0x18 ∷ []); should = some (0 ∷ []) ∷ none ∷ some [] ∷ [] }
-    ∷ record { is = report_told (times 32 0x12); should = some (1 ∷ []) ∷ none ∷ some [] ∷ [] }
-    ∷ record { is = report_told (times 33 0x12); should = some (0 ∷ []) ∷ none ∷ some [] ∷ [] }
-    ∷ record { is = report_told (times 32 0x22); should = some (1 ∷ []) ∷ none ∷ some [] ∷ [] }
-    ∷ record { is = report_told (times 33 0x22); should = some (0 ∷ []) ∷ none ∷ some [] ∷ [] }
-    ∷ record { is = report_told (times 32 0x12 ++ times 32 0x22); should = some (1 ∷ []) ∷ none ∷ some [] ∷ [] }
-    ∷ record { is = report_told (times 33 0x20); should = some (1 ∷ []) ∷ none ∷ some [] ∷ [] }
-    ∷ record { is = report_told (times 33 0x2A); should = some (1 ∷ []) ∷ none ∷ some [] ∷ [] }
+    record { is = report_told report_sample; should = Some (1 ∷ []) ∷ Some (60 ∷ []) ∷ Some (11 ∷ []) ∷ [] }
+    ∷ record { is = report_told report_ignored; should = Some (1 ∷ []) ∷ None ∷ Some (11 ∷ 7 ∷ []) ∷ [] }
+    ∷ record { is = report_told heartbeat_alone; should = Some (1 ∷ []) ∷ None ∷ Some [] ∷ [] }
+    ∷ record { is = report_told (0x18 ∷ []); should = Some (0 ∷ []) ∷ None ∷ Some [] ∷ [] }
+    ∷ record { is = report_told (times 32 0x12); should = Some (1 ∷ []) ∷ None ∷ Some [] ∷ [] }
+    ∷ record { is = report_told (times 33 0x12); should = Some (0 ∷ []) ∷ None ∷ Some [] ∷ [] }
+    ∷ record { is = report_told (times 32 0x22); should = Some (1 ∷ []) ∷ None ∷ Some [] ∷ [] }
+    ∷ record { is = report_told (times 33 0x22); should = Some (0 ∷ []) ∷ None ∷ Some [] ∷ [] }
+    ∷ record { is = report_told (times 32 0x12 ++ times 32 0x22); should = Some (1 ∷ []) ∷ None ∷ Some [] ∷ [] }
+    ∷ record { is = report_told (times 33 0x20); should = Some (1 ∷ []) ∷ None ∷ Some [] ∷ [] }
+    ∷ record { is = report_told (times 33 0x2A); should = Some (1 ∷ []) ∷ None ∷ Some [] ∷ [] }
     ∷ []
 
 abbrev pub Samples : Type 0

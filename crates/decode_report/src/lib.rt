@@ -4,16 +4,16 @@
 ghost use Rattle.std.specs.Prelude.{◌≡◌, length, leb, ◌≤◌};
 ghost use Rattle.decode_report.specs.Report.{with_entry, with_field, listed_in, report_of};
 
-use decimal::{Id, Ids};
+use decimal::Ids;
 use message::Reading;
-use protobuf::{Field, Step};
-use schedule::Interval;
+use protobuf::Field;
+use schedule::Length;
 
 // ReportSubscribe, record 13: the primary report. The heartbeat's fields are checked, but not told.
 #[derive(Clone, Copy)]
 pub struct Report {
     pub reading: Reading,
-    pub interval: Interval,
+    pub interval: Option<Length>,
     pub ids: Ids,
 }
 
@@ -21,10 +21,10 @@ pub struct Report {
 fn add_entry(ids: Ids, text: &[u8]) -> Ids
     ensures { result ≡ with_entry ids text.now }
 {
-    let Id::Given(id) = decimal::read(text) else {
+    let Some(id) = decimal::read(text) else {
         return ids;
     };
-    decimal::push(ids, id)
+    ids.push(id)
 }
 
 // The same for a field, where it is an entry of tlvid.
@@ -47,10 +47,10 @@ fn add_field(ids: Ids, v: &[u8], f: Field) -> Ids
 fn read_ids(v: &[u8]) -> Ids
     ensures { result ≡ listed_in v.now }
 {
-    let mut ids = decimal::no_ids();
+    let mut ids = Ids::empty();
     let mut at = 0;
     while at < v.len() {
-        let Step::Field(f) = protobuf::field_at(v, at) else {
+        let Some(f) = protobuf::field_at(v, at) else {
             return ids;
         };
         ids = add_field(ids, v, f);

@@ -1,4 +1,6 @@
 -- What a datagram asks, and what is done by it, leads to what `datagram_of` says: a law for each answer of the code.
+use Rattle.std.specs.Prelude.{Result, Ok, Err}
+use Rattle.post.specs.Judge.{Judgement}
 use Prim.Native.Nat.{ℕ, ◌≤◌, ◌<◌}
 use mathlib.Core.Path.{◌≡◌, refl, sym, ap, subst, ◌∙◌}
 use mathlib.Core.List.{List, []}
@@ -18,11 +20,9 @@ use Rattle.class.specs.declared.Class.{Class}
 use Rattle.class.specs.declared.Class.TheVariants.{Request, Acknowledgement as Acknowledging, Rejected, Ignored}
 use Rattle.coap.specs.Frame.{frame_of}
 use Rattle.coap.specs.Write.{reset}
-use Rattle.coap.specs.declared.Datagram.{Datagram}
-use Rattle.coap.specs.declared.Datagram.TheVariants.{Frame as Whole, Malformed, Foreign}
+use Rattle.coap.specs.declared.FrameError.{FrameError}
+use Rattle.coap.specs.declared.FrameError.TheVariants.{Malformed, Foreign}
 use Rattle.coap.specs.declared.Frame.{Frame}
-use Rattle.post.specs.declared.Judgement.{Judgement}
-use Rattle.post.specs.declared.Judgement.TheVariants.{Error as Refused, Run}
 use Rattle.postpone.specs.Late.{waiting_as, answers_as, call_with, ActedLate}
 use Rattle.receive.specs.Asked.{malformed_as, request_as, delayed_as as asked_later, judged_as, class_as, read_as, asked_of}
 use Rattle.receive.specs.declared.Asked.{Asked}
@@ -127,11 +127,11 @@ module _ (s : State) (image : List ℕ) (c : Call) where
   class-done f Rejected = refl
   class-done f Ignored = refl
 
-  read_done : (d : Datagram) → received s image c d ≡ done_as (read_as c.bytes d)
+  read_done : (d : Result Frame FrameError) → received s image c d ≡ done_as (read_as c.bytes d)
   unfolding received read_as malformed_as reset_to done_as
-  read_done Foreign = refl
-  read_done (Malformed kind id) = split (eqb kind 0) (λ h. rw h) (λ h. rw h)
-  read_done (Whole f) = class-done f (class_of f.kind f.code)
+  read_done (Err Foreign) = refl
+  read_done (Err (Malformed kind id)) = split (eqb kind 0) (λ h. rw h) (λ h. rw h)
+  read_done (Ok f) = class-done f (class_of f.kind f.code)
 
   abbrev asks : Asked
   asks = asked_of s.device.image_len (length image) (length c.out) c.bytes c.store c.verdict
@@ -168,8 +168,8 @@ module _ (s : State) (image : List ℕ) (c : Call) where
     where
       go : (j : Judgement) → is_full s.waiting ≡ true → any_answered (records (payload_in f)) ≡ true
           → posted_later s image c f (payload_in f) j ≡ silent 0 s image c
-      go (Refused code) full answered = refl
-      go Run full answered = rw (answered, full)
+      go (Err code) full answered = refl
+      go (Ok tt) full answered = rw (answered, full)
   shut-done f false h = absurd (true≢false (sym h))
 
   -- one that runs: its responses, if there are any, are kept
@@ -189,8 +189,8 @@ module _ (s : State) (image : List ℕ) (c : Call) where
   ran-as : (f : Frame) (j : Judgement) → judgement f ≡ j → shut_out true s.waiting (payload_in f) ≡ false
       → posted_later s image c f (payload_in f) j ≡ ran_as f (post_in s image c (payload_in f))
   unfolding posted_later ran_later posted posted_as ran_as shut_out keeps waiting_with answers_with
-  ran-as f (Refused code) u n = rw u
-  ran-as f Run u n =
+  ran-as f (Err code) u n = rw u
+  ran-as f (Ok tt) u n =
       let ts = records (payload_in f) in
       let w = world_in s image in
       split (any_answered ts)

@@ -1,10 +1,11 @@
 -- Laws of sending what was delayed.
+use Rattle.std.specs.Prelude.{None, Some}
 use Prim.Native.Nat.{ℕ, ◌≤◌}
 use mathlib.Core.Path.{◌≡◌, refl, sym, ap, ◌∙◌}
 use mathlib.Core.List.{List, [], ◌∷◌}
 use mathlib.Core.Bool.{Bool, true, false, not}
 use native.Mathlib.Omega.{arith}
-use borrow.Author.Tests.{ne_eqb, not-true, not-false}
+use borrow.Author.Tests.{ne_eqb}
 use lib.Dec.{eqb}
 use lib.ListN.{length, take}
 use Rattle.buffer.specs.Put.{Put}
@@ -27,19 +28,19 @@ use Rattle.state.specs.Setup.{url_of}
 use Rattle.state.specs.declared.Delayed.{Delayed}
 use Rattle.state.specs.declared.Registration.{Registration}
 use Rattle.state.specs.declared.State.{State}
-use Rattle.state.specs.declared.Url.{Url}
 use Rattle.state.specs.declared.What.{What}
 use Rattle.state.specs.declared.What.TheVariants.{Index, Record, Records, Responses}
 use Rattle.waiting.specs.Waiting.{url_in, held_in, due_of}
 use Rattle.waiting.specs.declared.Due.{Due}
 use Rattle.due.specs.Dispatched.{Dispatched}
 use Rattle.due.specs.declared.DueAnswer.{DueAnswer}
+use Rattle.buffer.specs.declared.text.Text.{Text}
 
 abbrev pub silent_as : ℕ → State → DueAnswer
 silent_as n s = record { outcome = n; len = 0; url = url_of []; state = s }
 
 -- the URL of a silent answer is empty
-pub silent-is : (n : ℕ) (s : State) {text : List ℕ} {u : Url} → text ≡ [] → u ≡ url_of text → record { outcome = n; len = 0; url = u; state = s } ≡ silent_as n s
+pub silent-is : (n : ℕ) (s : State) {text : List ℕ} {u : Text 128} → text ≡ [] → u ≡ url_of text → record { outcome = n; len = 0; url = u; state = s } ≡ silent_as n s
 silent-is n s e k = rw (k, e)
 
 -- the records of an answer stand elsewhere
@@ -105,7 +106,7 @@ module _ (s : State) (url : List ℕ) {out left : List ℕ} {n : ℕ} (g : 1280 
   sent-none [] p h z k = rw (appended-all (appended-put p) (omega arith)).0 (unsent 0 s out k)
   sent-none (b ∷ bs) p h z k = let a = appended-all (appended-put p) (omega arith) in absurd (omega (arith, a.1))
 
-  sent-some : (bs : List ℕ) {t : Registration} {text : List ℕ} {u : Url} → Put out 0 bs left n → length bs ≤ 1280 → (n ≡ 0 → ⊥) → t ≡ id_taken s.registration
+  sent-some : (bs : List ℕ) {t : Registration} {text : List ℕ} {u : Text 128} → Put out 0 bs left n → length bs ≤ 1280 → (n ≡ 0 → ⊥) → t ≡ id_taken s.registration
       → text ≡ url → u ≡ url_of text → Dispatched (dispatched s url bs) out (record { outcome = 0; len = n; url = u; state = with_registration s t }) left
   unfolding dispatched
   sent-some [] p h f e x y = let a = appended-all (appended-put p) (omega arith) in absurd (f (omega (arith, a.1)))
@@ -127,7 +128,7 @@ module _ (s t : State) (answers store : List ℕ) (time : Point) (d : Delayed) {
       → Dispatched (dispatched t (url_in d answers) (datagram_for s answers store time d)) out r left
   send-none z k = sent-none t (url_in d answers) g (datagram_for s answers store time d) p (datagram-short s answers store time d) z k
 
-  pub send-some : {i : Registration} {text : List ℕ} {u : Url} → (n ≡ 0 → ⊥) → i ≡ id_taken t.registration → text ≡ url_in d answers → u ≡ url_of text
+  pub send-some : {i : Registration} {text : List ℕ} {u : Text 128} → (n ≡ 0 → ⊥) → i ≡ id_taken t.registration → text ≡ url_in d answers → u ≡ url_of text
       → Dispatched (dispatched t (url_in d answers) (datagram_for s answers store time d)) out
       (record { outcome = 0; len = n; url = u; state = with_registration t i }) left
   send-some f e x y = sent-some t (url_in d answers) g (datagram_for s answers store time d) p (datagram-short s answers store time d) f e x y
@@ -138,13 +139,13 @@ module _ (s : State) (answers out store : List ℕ) (time : Point) {n : ℕ} (w 
   unfolding answer_due
   due-refused h k = rw (← w, ne_eqb n 0 h) (unsent n s out k)
 
-  module _ (z : n ≡ 0) {due : Due} (e : due ≡ due_of s.waiting time) where
-    pub due-none : not due.is ≡ true → r ≡ silent_as 0 s → Dispatched (answer_due s answers (length out) store time) out r out
+  module _ (z : n ≡ 0) where
+    pub due-none : due_of s.waiting time ≡ None → r ≡ silent_as 0 s → Dispatched (answer_due s answers (length out) store time) out r out
     unfolding dispatch_of answer_due
-    due-none h k = rw (← w, z, ← e, not-true due.is h) (unsent 0 s out k)
+    due-none e k = rw (← w, z, e) (unsent 0 s out k)
 
-    pub due-some : {left : List ℕ} → not due.is ≡ false
+    pub due-some : (due : Due) {left : List ℕ} → due_of s.waiting time ≡ Some due
         → (1280 ≤ length out → Dispatched (dispatched (with_waiting s due.left) (url_in due.answer answers) (datagram_for s answers store time due.answer)) out r left)
         → Dispatched (answer_due s answers (length out) store time) out r left
     unfolding dispatch_of answer_due
-    due-some h f = rw (← w, z, ← e, not-false due.is h) (f (own_room (length out) store true 0 (sym w ∙ z)))
+    due-some due e f = rw (← w, z, e) (f (own_room (length out) store true 0 (sym w ∙ z)))

@@ -10,8 +10,10 @@ ghost use Rattle.state.specs.Setup.{url_of};
 ghost use Rattle.waiting.specs.Waiting.{url_in};
 ghost use Rattle.due.specs.Dispatched.{Dispatched};
 
+use buffer::Text;
 use schedule::Point;
 use state::{Delayed, State, Url, Waiting, What};
+use waiting::Due;
 
 // What the call answers: document 01's outcome, the length of what was written to the output, the URL that it goes to (of length 0 where it goes to
 // /c of the URL held or nothing was written), and the state after it.
@@ -27,7 +29,7 @@ pub struct DueAnswer {
 fn silent(state: State, outcome: u32) -> DueAnswer
     ensures { result ≡ record { outcome = outcome; len = 0; url = url_of []; state = state } }
 {
-    let url = state::url_of(b"");
+    let url = Text::of(b"");
     DueAnswer {
         outcome,
         len: 0,
@@ -104,7 +106,7 @@ fn send(
     let old = state.registration;
     let registration = registration::take_id(old);
     next.registration = registration;
-    let url = state::url_of(waiting::url_of(answer, answers));
+    let url = Text::of(waiting::url_of(answer, answers));
     DueAnswer {
         outcome: 0,
         len,
@@ -123,16 +125,12 @@ pub fn answer_due(
 ) -> DueAnswer
     ensures { Dispatched (answer_due state answers.now (length out.old) store.now time) out.old result out.new }
 {
-    let refused = refusal::own_refusal(out.len(), store, true, 0);
-    if refused != 0 {
-        return silent(state, refused);
+    if let Err(refusal) = refusal::own_refusal(out.len(), store, true, 0) {
+        return silent(state, refusal.number());
     }
     let waiting = state.waiting;
-    let due = waiting::take_due(waiting, time);
-    if !due.is {
+    let Some(Due { answer, left }) = waiting::take_due(waiting, time) else {
         return silent(state, 0);
-    }
-    let answer = due.answer;
-    let left = due.left;
+    };
     send(state, answers, out, store, time, answer, left)
 }

@@ -1,4 +1,5 @@
 -- At most how many bytes the records take that the agent writes of itself, by the rows of their tables.
+use Rattle.std.specs.Prelude.{Option}
 use Prim.Native.Nat.{ℕ, ◌+◌, ◌*◌, ◌≤◌, ◌<◌}
 use mathlib.Core.Path.{◌≡◌}
 use mathlib.Core.List.{List, [], ◌∷◌, map}
@@ -8,13 +9,13 @@ use Rattle.decimal.specs.Decimal.{decimal}
 use Rattle.decimal.specs.declared.Ids.{Ids}
 use Rattle.protobuf.specs.Write.{bytes_field, each}
 use Rattle.protobuf.proofs.SizeLaws.{take-most}
-use Rattle.schedule.specs.declared.Interval.{Interval}
 use Rattle.schedule.specs.declared.Point.{Point}
 use Rattle.tables.specs.Table.{strings, written}
 use Rattle.tables.proofs.TableSizes.{stop, field, delimited-most, number, no_number, no-string, no-strings}
 use Rattle.varint.proofs.Laws.{varint-1, delimited-length}
 use Rattle.encode.specs.Write.{report_record, time_record, group_record}
 use Rattle.encode.proofs.WriteLaws.{decimal-most}
+use Rattle.schedule.specs.declared.Length.{Length}
 
 -- a list of ids as texts: each has a tag, a length and at most ten digits
 module _ (n : ℕ) (tag : n < 16) where
@@ -35,7 +36,7 @@ module _ (n : ℕ) (tag : n < 16) where
   unfolding written
   ids k m list h = let g = ids-length (take m list) in omega (arith, take-most m k list h)
 
-pub report-most : (i : Interval) (a : Ids) → length a.list ≡ 32 → length (report_record i a) ≤ 398
+pub report-most : (i : Option Length) (a : Ids) → length a.list ≡ 32 → length (report_record i a) ≤ 398
 unfolding report_record
 report-most i a h =
     delimited-most 13

@@ -7,7 +7,7 @@ ghost use Rattle.encode.specs.Write.{texts, index_record, session_record, report
 
 use csmp::{Index, SessionId};
 use decimal::Ids;
-use schedule::{Interval, Point};
+use schedule::{Length, Point};
 
 // Appends ids as entries of the list `number`, where they all fit.
 fn put_texts(out: &mut [u8], at: usize, number: u32, ids: &[u32]) -> usize
@@ -50,18 +50,12 @@ pub fn put_session(out: &mut [u8], at: usize, id: SessionId) -> usize
     ensures { Put out.old at (session_record id) out.new result }
 {
     let mut value = [0u8; 128];
-    let bytes = id.bytes;
-    let n = protobuf::put_bytes(
-        &mut value,
-        0,
-        csmp::SESSION_ID,
-        buffer::front(&bytes, id.len),
-    );
+    let n = protobuf::put_bytes(&mut value, 0, csmp::SESSION_ID, id.letters());
     tlv::put(out, at, 7, &value[..n])
 }
 
 // ReportSubscribe, record 13, without the heartbeat's fields.
-pub fn put_report(out: &mut [u8], at: usize, interval: Interval, ids: Ids) -> usize
+pub fn put_report(out: &mut [u8], at: usize, interval: Option<Length>, ids: Ids) -> usize
     ensures { Put out.old at (report_record interval ids) out.new result }
 {
     let mut value = [0u8; 1024];

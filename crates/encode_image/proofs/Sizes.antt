@@ -1,4 +1,5 @@
 -- At most how many bytes the records about images take: answers, and images by the rows of their table.
+use Rattle.std.specs.Prelude.{Option}
 use Prim.Native.Nat.{ℕ, ◌≤◌, ◌<◌}
 use mathlib.Core.Path.{◌≡◌}
 use mathlib.Core.List.{List, [], ◌++◌}
@@ -6,10 +7,9 @@ use mathlib.Core.Bool.{Bool, true, false}
 use native.Mathlib.Nat.{le_of_eq}
 use native.Mathlib.Omega.{arith}
 use lib.ListN.{length, length-append}
-use Rattle.protobuf.specs.Given.{number_given, if_given}
+use Rattle.protobuf.specs.Given.{if_given}
 use Rattle.protobuf.specs.Write.{number_field, bytes_field, if_any}
 use Rattle.protobuf.proofs.SizeLaws.{take-most, answer-most}
-use Rattle.schedule.specs.declared.Moment.{Moment}
 use Rattle.tables.specs.Table.{written, write_by}
 use Rattle.tables.proofs.TableSizes.{stop, field, delimited-most, number, flag, held, text-if, no_number, no_flag, no_bytes, no-string, no-message}
 use Rattle.varint.proofs.Laws.{varint-1, delimited-length}
@@ -17,6 +17,7 @@ use Rattle.csmp.specs.Values.{moment_number}
 use Rattle.csmp.specs.declared.Hash.{Hash}
 use Rattle.csmp.specs.declared.Image.{Image}
 use Rattle.encode_image.specs.Write.{response_record, running_record, open_record, backup_record}
+use Rattle.schedule.specs.declared.Point.{Point}
 
 -- at most how many bytes a response takes
 hash-most : (given : Bool) (bs : List ℕ) → length bs ≡ 32 → length (if_any (bytes_field 1) (if_given given bs)) ≤ 34
@@ -24,10 +25,10 @@ unfolding if_any bytes_field
 hash-most true bs h = omega (arith, delimited-length 10 bs, varint-1 10 (omega arith), varint-1 (length bs) (omega arith))
 hash-most false bs h = omega arith
 
-abbrev pub time_field : Moment → List ℕ
-time_field t = if_any (number_field 3) (number_given (moment_number t))
+abbrev pub time_field : Option Point → List ℕ
+time_field t = if_any (number_field 3) (moment_number t)
 
-pub response-record-most : (kind : ℕ) (h : Hash) (answer : ℕ) (time : Moment) → kind < 128 → length h.bytes ≡ 32 → answer < 128
+pub response-record-most : (kind : ℕ) (h : Hash) (answer : ℕ) (time : Option Point) → kind < 128 → length h.bytes ≡ 32 → answer < 128
     → length (time_field time) ≤ 6 → length (response_record kind h answer time) ≤ 44
 unfolding response_record write_by written if_any
 response-record-most kind h answer time k l a t =
@@ -59,7 +60,7 @@ module _ (hash : List ℕ) (k : length hash ≡ 32) where
       (omega arith)
       (omega arith)
 
-  pub backup-most : (time : Moment) → length (backup_record hash time) ≤ 60
+  pub backup-most : (time : Option Point) → length (backup_record hash time) ≤ 60
   unfolding backup_record
   backup-most time =
       delimited-most 75
@@ -79,7 +80,7 @@ module _ (hash : List ℕ) (k : length hash ≡ 32) where
       (omega arith)
       (omega arith)
 
-pub open-most : (i : Image) (n : ℕ) (time : Moment) → length i.hash ≡ 32 → length i.name.bytes ≡ 128 → length i.version.bytes ≡ 32
+pub open-most : (i : Image) (n : ℕ) (time : Option Point) → length i.hash ≡ 32 → length i.name.bytes ≡ 128 → length i.version.bytes ≡ 32
     → length i.bitmap ≡ 128 → length (open_record i n time) ≤ 379
 unfolding open_record
 open-most i n time h k l m =

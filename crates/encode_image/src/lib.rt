@@ -6,7 +6,7 @@ ghost use Rattle.buffer.specs.Put.{Put};
 ghost use Rattle.encode_image.specs.Write.{response_record, running_record, open_record, backup_record};
 
 use csmp::{Hash, IMAGE_FILE_HASH, IMAGE_INDEX, IMAGE_LOAD_TIME, Image};
-use schedule::Moment;
+use schedule::Point;
 
 // TransferResponse, LoadResponse, CancelLoadResponse, SetBackupResponse, records 71 to 74: only 72 has a load time.
 pub fn put_response(
@@ -15,7 +15,7 @@ pub fn put_response(
     record: u64,
     hash: Hash,
     answer: u32,
-    time: Moment,
+    time: Option<Point>,
 ) -> usize
     ensures { Put out.old at (response_record «record» hash answer time) out.new result }
 {
@@ -39,7 +39,7 @@ pub fn put_running(out: &mut [u8], at: usize, hash: [u8; 32]) -> usize
 }
 
 // The same of the backup, with its load time if it is pending.
-pub fn put_backup(out: &mut [u8], at: usize, hash: [u8; 32], time: Moment) -> usize
+pub fn put_backup(out: &mut [u8], at: usize, hash: [u8; 32], time: Option<Point>) -> usize
     ensures { Put out.old at (backup_record hash time) out.new result }
 {
     let mut value = [0u8; 128];
@@ -50,7 +50,13 @@ pub fn put_backup(out: &mut [u8], at: usize, hash: [u8; 32], time: Moment) -> us
 }
 
 // The same of the open image, whose bitmap is the first `map_len` bytes.
-pub fn put_open(out: &mut [u8], at: usize, image: Image, map_len: usize, time: Moment) -> usize
+pub fn put_open(
+    out: &mut [u8],
+    at: usize,
+    image: Image,
+    map_len: usize,
+    time: Option<Point>,
+) -> usize
     ensures { Put out.old at (open_record image map_len time) out.new result }
 {
     let mut value = [0u8; 512];

@@ -1,10 +1,10 @@
 -- A feed only puts blocks, and so moves nothing that its calls, or others, are judged by.
+use Rattle.std.specs.Prelude.{None, Option, Some, Result, Ok, Err}
 use Prim.Native.Nat.{ℕ}
 use mathlib.Core.Path.{◌≡◌, refl, sym, ◌∙◌}
 use mathlib.Core.List.{List, [], ◌∷◌, ◌++◌}
 use mathlib.Core.Bool.{Bool, true, false, not, ◌&&◌, ◌||◌, and-false, true≢false}
 use mathlib.Core.Logic.{◌⊎◌, inl, inr}
-use mathlib.Core.Option.{Option, none, some}
 use native.Mathlib.Omega.{arith}
 use borrow.Author.Tests.{eqb-true, eqb-false}
 use lib.Dec.{eqb, ltb}
@@ -13,20 +13,18 @@ use Rattle.buffer.proofs.Tests.{split, both, neither}
 use Rattle.buffer.specs.Listed.{listed}
 use Rattle.buffer.specs.Pick.{pick}
 use Rattle.coap.specs.Frame.{frame_of}
-use Rattle.coap.specs.declared.Datagram.{Datagram}
-use Rattle.coap.specs.declared.Datagram.TheVariants.{Frame as Whole, Malformed, Foreign}
+use Rattle.coap.specs.declared.FrameError.{FrameError}
+use Rattle.coap.specs.declared.FrameError.TheVariants.{Malformed, Foreign}
 use Rattle.coap.specs.declared.Frame.{Frame}
 use Rattle.csmp.specs.declared.Image.{Image}
 use Rattle.decode.specs.Read.{redirect_of}
-use Rattle.post.specs.declared.Judgement.{Judgement}
-use Rattle.post.specs.declared.Judgement.TheVariants.{Error as Erring, Run}
 use Rattle.registration.specs.Redirect.{is_set, followed, follow, url_in, redirected}
 use Rattle.decimal.specs.Ids.{held}
 use Rattle.request.specs.Request.{request_of}
 use Rattle.request.proofs.Judged.{post-asks}
 use Rattle.request.specs.declared.Asks.{Asks}
 use Rattle.request.specs.declared.Asks.TheVariants.{Error, Post, Index, Record, Records}
-use Rattle.post.specs.Judge.{padded_in}
+use Rattle.post.specs.Judge.{padded_in, Judgement}
 use Rattle.run.specs.Post.{posted_as, judged_at, posted}
 use Rattle.run.specs.Run.{ran, any_answered}
 use Rattle.step.specs.Step.{World, with_flash, block_taken, act, is_request}
@@ -80,9 +78,9 @@ unfolding redirected followed follow
 ignored d r v h = go (url_in v) h (is_set (redirect_of v).immediate)
   where
     go : (u : Option (List ℕ)) → followed u ≡ false → (b : Bool) → follow d r u b ≡ r
-    go none h b = refl
-    go (some []) h b = refl
-    go (some (x ∷ xs)) h b = let z : ◌≡◌ {A = ℕ} 0 1 = cc in absurd (omega arith)
+    go None h b = refl
+    go (Some []) h b = refl
+    go (Some (x ∷ xs)) h b = let z : ◌≡◌ {A = ℕ} 0 1 = cc in absurd (omega arith)
 
 -- a record that does not steer, other than a block, changes nothing
 module _ (d : Device) (w : World) (t : Tlv) (h : steers t ≡ false) where
@@ -119,8 +117,8 @@ module _ (d : Device) (ts : List Tlv) where
   block : (w : World) (v : List ℕ) (u : Option Offer) → offered w.images.image v ≡ u → ((next : World) → next.images.«open» ≡ w.images.«open» → Fed next)
       → ran d (with_flash w (take_block w.images.image w.flash v)) ts ≡ with_flash w (put_all (with_offer u (offers w.images.image ts)) (flash_in w))
   unfolding take_block put_all
-  block w v none e ih = rw e (ih w refl)
-  block w v (some o) e ih =
+  block w v None e ih = rw e (ih w refl)
+  block w v (Some o) e ih =
       let p : Flash = put_block w.images.image w.flash o.number o.bytes in
       rw e (ih (with_flash w p) refl ∙ rw (offers-by p.image w.images.image ts (put-hash w.images.image w.flash o.number o.bytes)))
 
@@ -194,7 +192,7 @@ module _ (k : Kept) (c : Call) where
   abbrev runs_as : Bool → List ℕ → Asks → List Tlv
   runs_as = runs_asked k.state.device k.state.assigned.groups k.state.waiting c
 
-  abbrev runs_in : Datagram → List Tlv
+  abbrev runs_in : Result Frame FrameError → List Tlv
   runs_in = runs_framed k.state.device k.state.assigned.groups k.state.waiting c
 
   abbrev judgement : List ℕ → Judgement
@@ -203,8 +201,8 @@ module _ (k : Kept) (c : Call) where
   by-judgement : (p : List ℕ) (b : Bool) (j : Judgement)
       → kept_by (served_post k.state (posted_as k.state.device (world_in k.state k.image) p b j)) ≡ ran_in k (runs_judged p j)
   unfolding ran posted_as
-  by-judgement p b (Erring code) = refl
-  by-judgement p b Run = refl
+  by-judgement p b (Err code) = refl
+  by-judgement p b (Ok tt) = refl
 
   post-kept : (p : List ℕ) → kept_by (served_post k.state (post_in k.state k.image c p)) ≡ ran_in k (runs_judged p (judgement p))
   unfolding posted
@@ -270,23 +268,23 @@ module _ (k : Kept) (c : Call) where
   whole-outcome f Rejected = refl
   whole-outcome f Ignored = refl
 
-  by-frame : (m : Datagram) (b : Bool)
+  by-frame : (m : Result Frame FrameError) (b : Bool)
       → (not (eqb (received k.state k.image c m).outcome 0) || (frames_post m && b)) ≡ true → any_steers (runs_in m) ≡ false
       → FedBy (runs_in m) (received k.state k.image c m)
   unfolding ran received
-  by-frame (Whole f) b h n =
+  by-frame (Ok f) b h n =
       let t = both (eqb f.code 2) b (rw (whole-outcome f (class_of f.kind f.code)) at h) in
       by-class f (class_of f.kind f.code) t.0 (post-class f.kind f.code t.0) n
-  by-frame (Malformed kind id) b h n = record { kept = refl; answers = refl }
-  by-frame Foreign b h n = record { kept = refl; answers = refl }
+  by-frame (Err (Malformed kind id)) b h n = record { kept = refl; answers = refl }
+  by-frame (Err Foreign) b h n = record { kept = refl; answers = refl }
 
   -- a refused call runs nothing
-  refused-frame : (m : Datagram) → eqb (received k.state k.image c m).outcome 0 ≡ false → runs_in m ≡ []
+  refused-frame : (m : Result Frame FrameError) → eqb (received k.state k.image c m).outcome 0 ≡ false → runs_in m ≡ []
   unfolding received
-  refused-frame (Whole f) h =
+  refused-frame (Ok f) h =
       let z : ◌≡◌ {A = ℕ} 0 1 = absurd (eqb-false _ 0 h (whole-outcome f (class_of f.kind f.code))) in absurd (omega arith)
-  refused-frame (Malformed kind id) h = refl
-  refused-frame Foreign h = refl
+  refused-frame (Err (Malformed kind id)) h = refl
+  refused-frame (Err Foreign) h = refl
 
   refused-runs : eqb (datagram_of k.state k.image c).outcome 0 ≡ false → runs k c ≡ []
   unfolding datagram_of runs
@@ -327,12 +325,12 @@ module _ (k : Kept) (o : k.state.images.«open» ≡ true) where
   runs_same f c e = rw e
 
   -- and so does whether it is one of a feed
-  outcome-frame : (f : Flash) (c : Call) (m : Datagram)
+  outcome-frame : (f : Flash) (c : Call) (m : Result Frame FrameError)
       → (received (kept_with k f).state f.bytes c m).outcome ≡ (received k.state k.image c m).outcome
   unfolding received
-  outcome-frame f c (Whole g) = whole-outcome (kept_with k f) c g (class_of g.kind g.code) ∙ sym (whole-outcome k c g (class_of g.kind g.code))
-  outcome-frame f c (Malformed kind id) = refl
-  outcome-frame f c Foreign = refl
+  outcome-frame f c (Ok g) = whole-outcome (kept_with k f) c g (class_of g.kind g.code) ∙ sym (whole-outcome k c g (class_of g.kind g.code))
+  outcome-frame f c (Err (Malformed kind id)) = refl
+  outcome-frame f c (Err Foreign) = refl
 
   outcome-same : (f : Flash) (c : Call) → length f.bytes ≡ length k.image
       → (datagram_of (kept_with k f).state f.bytes c).outcome ≡ (datagram_of k.state k.image c).outcome

@@ -1,12 +1,12 @@
-// What the answers about images share: the response codes, the hashes and texts of a request, the images with an answer.
+// What the answers about images share: the faults, the hashes and texts of a request, the images with an answer.
 #![tactic(auto)]
 
 mod place;
 
 ghost use Rattle.std.specs.Prelude.{◌≡◌};
-ghost use Rattle.firmware.specs.Answer.{unchanged, is_open};
+ghost use Rattle.firmware.specs.Answer.{settled, is_open};
 
-pub use place::{echo, hash_at, is_given, is_hash, name_at, same_hash, version_at};
+pub use place::{echo, given_hash, hash_at, is_hash, name_at, version_at};
 use state::Images;
 
 // The images after a record, and the answer.
@@ -16,34 +16,39 @@ pub struct Answered {
     pub answer: u32,
 }
 
-// ResponseCodes of the CSMP draft.
-pub const OK: u32 = 0;
-
-pub const INCOMPATIBLE_HW: u32 = 1;
-
-pub const IMAGE_INCOMPLETE: u32 = 2;
-
-pub const UNKNOWN_HASH: u32 = 3;
-
-pub const FILE_SIZE_TOO_BIG: u32 = 4;
-
-pub const INVALID_REQ: u32 = 6;
-
-pub const INVALID_BLOCK_SIZE: u32 = 7;
-
-pub const PENDING_REBOOT: u32 = 8;
-
-pub const IMAGE_RUNNING: u32 = 9;
-
-pub fn keep(images: Images, answer: u32) -> Answered
-    ensures { result ≡ unchanged images answer }
-{
-    Answered { images, answer }
+// Why a request is refused: the ResponseCodes of the CSMP draft, beside 0 for none.
+#[derive(Clone, Copy)]
+pub enum Fault {
+    IncompatibleHw = 1,
+    ImageIncomplete = 2,
+    UnknownHash = 3,
+    FileSizeTooBig = 4,
+    InvalidReq = 6,
+    InvalidBlockSize = 7,
+    PendingReboot = 8,
+    ImageRunning = 9,
 }
 
+// The images that a request leaves, and its answer: a fault changes nothing.
+#[tactic(auto, unfolding(crate::specs::Answer::settled, crate::specs::Answer::answer_of))]
+pub fn settle(images: Images, done: Result<Images, Fault>) -> Answered
+    ensures { result ≡ settled images done }
+{
+    match done {
+        Ok(next) => Answered {
+            images: next,
+            answer: 0,
+        },
+        Err(fault) => Answered {
+            images,
+            answer: fault as u32,
+        },
+    }
+}
+
+#[tactic(auto, unfolding(crate::specs::Answer::is_open))]
 pub fn is_open(images: Images, hash: [u8; 32]) -> bool
     ensures { result ≡ is_open images hash }
 {
-    let ours = images.image.hash;
-    place::is_given(images.open, ours, hash)
+    images.open && buffer::same(&images.image.hash, &hash)
 }

@@ -1,8 +1,9 @@
 -- Numbers, and bytes behind their length, stand as they are written where they are not padded.
+use Rattle.std.specs.Prelude.{None, Option, Some}
 use Prim.Native.Nat.{ℕ, zero, suc, ◌+◌, ◌*◌, ◌-◌, ◌/◌, ◌%◌, ◌≤◌, ◌<◌}
 use mathlib.Core.Path.{◌≡◌, refl, sym, ap, ap₂, ◌∙◌}
 use mathlib.Core.List.{List, [], ◌∷◌, ◌++◌}
-use mathlib.Core.Bool.{Bool, true, false}
+use mathlib.Core.Bool.{Bool, true, false, ◌||◌}
 use native.Mathlib.Omega.{arith}
 use borrow.Author.Tests.{eqb-false, le-ltb, ltb-true, ltb-false}
 use lib.Dec.{eqb, ltb}
@@ -10,17 +11,15 @@ use lib.ListN.{length, take, drop, length-take, length-drop, take-append-drop}
 use lib.Seq.{drop-drop}
 use Rattle.buffer.specs.Pick.{pick}
 use Rattle.buffer.specs.Stretch.{fits, stretch}
-use Rattle.buffer.specs.declared.Stretch.{Stretch}
-use Rattle.buffer.specs.declared.Stretch.TheVariants.{To, Outside}
 use Rattle.buffer.proofs.Tests.{neither}
 use Rattle.buffer.proofs.Stretches.{room, stretch-to, stretch-outside}
-use Rattle.varint.specs.Varint.{more, spelt, varint_at, continued, spelling, varint, of_stretch, of_length, delimited_at}
-use Rattle.varint.specs.declared.Delimited.TheVariants.{At}
-use Rattle.varint.specs.declared.Varint.{Varint}
-use Rattle.varint.specs.declared.Varint.TheVariants.{Number, Unreadable}
+use Rattle.varint.specs.Varint.{more, spelt, varint_at, continued, spelling, varint, of_stretch, of_length, delimited_at, encloses, stands}
 use Rattle.varint.proofs.Laws.{spelling-end}
 use Rattle.form.specs.Bytes.{AreBytes}
 use Rattle.form.specs.Statements.{NumberUnchanged}
+use Rattle.varint.specs.declared.Varint.{Varint}
+use Rattle.varint.proofs.Stretched.{encloses-is}
+use Rattle.varint.proofs.Theorems.{stands-is}
 
 -- parts of bytes are bytes
 pub bytes_drop : (i : ℕ) (s : List ℕ) → AreBytes s → AreBytes (drop i s)
@@ -38,38 +37,36 @@ record Same (short s : List ℕ) (at next : ℕ) : Type 0 where
   bytes : short ++ drop (length short) s ≡ s
   ends : at + length short ≡ next
 
-same_more : (k b : ℕ) (s : List ℕ) (at v next : ℕ) (r : Varint) → 128 ≤ b → b < 256
-    → ((x m : ℕ) → r ≡ Number x m false → Same (spelling k x) s (at + 1) m) → more b r ≡ Number v next false → Same (spelling (suc k) v) (b ∷ s) at next
+same_more : (k b : ℕ) (s : List ℕ) (at v next : ℕ) (r : Option Varint) → 128 ≤ b → b < 256
+    → ((x m : ℕ) → r ≡ stands x m false → Same (spelling k x) s (at + 1) m) → more b r ≡ stands v next false → Same (spelling (suc k) v) (b ∷ s) at next
 unfolding more spelling continued
-same_more k b s at v next (Number x m o) h g ih e =
-    let p : b % 128 + 128 * x ≡ v = cc in
-    let q : m ≡ next = cc in
-    let n = neither o (eqb x 0) (cc) in
-    let y = eqb-false x 0 n.1 in
-    let d : v / 128 ≡ x = omega arith in
+same_more k b s at v next (Some u) h g ih e =
+    let r = stands-is (b % 128 + 128 * u.value) u.next v next (u.padded || eqb u.value 0) false e in
+    let n = neither u.padded (eqb u.value 0) r.2 in
+    let y = eqb-false u.value 0 n.1 in
+    let d : v / 128 ≡ u.value = omega arith in
     let c : v % 128 + 128 ≡ b = omega arith in
-    let w = ih x m (ap (Number x m) n.0) in
+    let w = ih u.value u.next (ap (stands u.value u.next) n.0) in
     rw (le-ltb v 128 (omega arith), d, c) (record { bytes = ap (◌∷◌ b) w.bytes; ends = let z = w.ends in omega arith })
-same_more k b s at v next Unreadable h g ih e = let z : ◌≡◌ {A = ℕ} 0 1 = cc in absurd (omega arith)
+same_more k b s at v next None h g ih e = let z : ◌≡◌ {A = ℕ} 0 1 = cc in absurd (omega arith)
 
-same-one : (k b : ℕ) (s : List ℕ) (at v next : ℕ) → b < 128 → Number b (at + 1) false ≡ Number v next false → Same (spelling k v) (b ∷ s) at next
+same-one : (k b : ℕ) (s : List ℕ) (at v next : ℕ) → b < 128 → stands b (at + 1) false ≡ stands v next false → Same (spelling k v) (b ∷ s) at next
 same-one k b s at v next h e =
-    let p : b ≡ v = cc in
-    let q : at + 1 ≡ next = cc in
-    rw (spelling-end k v (omega arith)) (record { bytes = ap (λ (x : ℕ). x ∷ s) (sym p); ends = q })
+    let r = stands-is b (at + 1) v next false false e in
+    rw (spelling-end k v (omega arith)) (record { bytes = ap (λ (x : ℕ). x ∷ s) (sym r.0); ends = r.1 })
 
-same_at : (k : ℕ) (s : List ℕ) (at v next : ℕ) → AreBytes s → spelt k s at ≡ Number v next false → Same (spelling k v) s at next
+same_at : (k : ℕ) (s : List ℕ) (at v next : ℕ) → AreBytes s → spelt k s at ≡ stands v next false → Same (spelling k v) s at next
 unfolding spelt
 same_at k [] at v next a e = let z : ◌≡◌ {A = ℕ} 0 1 = cc in absurd (omega arith)
 same_at zero (b ∷ s) at v next a e = go (ltb b 2) refl e
   where
-    go : (t : Bool) → ltb b 2 ≡ t → pick t (Number b (at + 1) false) Unreadable ≡ Number v next false → Same (spelling zero v) (b ∷ s) at next
+    go : (t : Bool) → ltb b 2 ≡ t → pick t (stands b (at + 1) false) None ≡ stands v next false → Same (spelling zero v) (b ∷ s) at next
     go true l q = same-one zero b s at v next (let h = ltb-true b 2 l in omega arith) q
     go false l q = let z : ◌≡◌ {A = ℕ} 0 1 = cc in absurd (omega arith)
 same_at (suc k) (b ∷ s) at v next a e = go (ltb b 128) refl (λ x m. same_at k s (at + 1) x m a.1) e
   where
-    go : (t : Bool) → ltb b 128 ≡ t → ((x m : ℕ) → spelt k s (at + 1) ≡ Number x m false → Same (spelling k x) s (at + 1) m)
-        → pick t (Number b (at + 1) false) (more b (spelt k s (at + 1))) ≡ Number v next false → Same (spelling (suc k) v) (b ∷ s) at next
+    go : (t : Bool) → ltb b 128 ≡ t → ((x m : ℕ) → spelt k s (at + 1) ≡ stands x m false → Same (spelling k x) s (at + 1) m)
+        → pick t (stands b (at + 1) false) (more b (spelt k s (at + 1))) ≡ stands v next false → Same (spelling (suc k) v) (b ∷ s) at next
     go true l ih q = same-one (suc k) b s at v next (ltb-true b 128 l) q
     go false l ih q = same_more k b s at v next (spelt k s (at + 1)) (ltb-false b 128 l) a.0 ih q
 
@@ -80,7 +77,7 @@ same s at v next a e =
     rw (drop-drop (length (spelling 9 v)) at s, w.ends) at w.bytes
 
 -- a stretch that has an end has its length, and lies in the slice
-stretch-long : (len at n end : ℕ) → stretch len at n ≡ To end → (at + n ≡ end) × (end ≤ len)
+stretch-long : (len at n end : ℕ) → stretch len at n ≡ Some end → (at + n ≡ end) × (end ≤ len)
 stretch-long len at n end e = go (fits len at n) refl
   where
     go : (t : Bool) → fits len at n ≡ t → (at + n ≡ end) × (end ≤ len)
@@ -93,29 +90,30 @@ stretch-long len at n end e = go (fits len at n) refl
 -- bytes behind their length: where the number of them stands
 pub record Behind (s : List ℕ) (at start end : ℕ) (p : Bool) : Type 0 where
   pub count : ℕ
-  pub number : varint_at s at ≡ Number count start p
+  pub number : varint_at s at ≡ stands count start p
   pub ends : start + count ≡ end
   pub fits : end ≤ length s
 
-pub delimited-behind : (s : List ℕ) (at start end : ℕ) (p : Bool) → delimited_at s at ≡ At start end p → Behind s at start end p
+pub delimited-behind : (s : List ℕ) (at start end : ℕ) (p : Bool) → delimited_at s at ≡ encloses start end p → Behind s at start end p
 unfolding delimited_at of_length of_stretch
 delimited-behind s at start end p e = go (varint_at s at) refl e
   where
-    held : (mid n : ℕ) (o : Bool) (t : Stretch) → varint_at s at ≡ Number n mid o → stretch (length s) mid n ≡ t → of_stretch mid o t ≡ At start end p → Behind s at start end p
-    held mid n o (To x) l k q =
-        let f : mid ≡ start = cc in
-        let g : x ≡ end = cc in
-        let r : o ≡ p = cc in
+    held : (mid n : ℕ) (o : Bool) (t : Option ℕ) → varint_at s at ≡ stands n mid o → stretch (length s) mid n ≡ t → of_stretch mid o t ≡ encloses start end p → Behind s at start end p
+    held mid n o (Some x) l k q =
+        let d = encloses-is mid x start end o p q in
+        let f = d.0 in
+        let g = d.1 in
+        let r = d.2 in
         let h = stretch-long (length s) mid n x k in
-        record { count = n; number = l ∙ ap₂ (Number n) f r; ends = omega arith; fits = omega arith }
-    held mid n o Outside l k q = let z : ◌≡◌ {A = ℕ} 0 1 = cc in absurd (omega arith)
+        record { count = n; number = l ∙ ap₂ (stands n) f r; ends = omega arith; fits = omega arith }
+    held mid n o None l k q = let z : ◌≡◌ {A = ℕ} 0 1 = cc in absurd (omega arith)
 
-    go : (v : Varint) → varint_at s at ≡ v → of_length s v ≡ At start end p → Behind s at start end p
-    go (Number n mid o) l q = held mid n o (stretch (length s) mid n) l refl q
-    go Unreadable l q = let z : ◌≡◌ {A = ℕ} 0 1 = cc in absurd (omega arith)
+    go : (v : Option Varint) → varint_at s at ≡ v → of_length s v ≡ encloses start end p → Behind s at start end p
+    go (Some x) l q = held x.next x.value x.padded (stretch (length s) x.next x.value) l refl q
+    go None l q = let z : ◌≡◌ {A = ℕ} 0 1 = cc in absurd (omega arith)
 
 -- where their length is not padded they stand as they are written
-pub delimited-same : (s : List ℕ) (at start end : ℕ) → AreBytes s → delimited_at s at ≡ At start end false
+pub delimited-same : (s : List ℕ) (at start end : ℕ) → AreBytes s → delimited_at s at ≡ encloses start end false
     → varint (length (take (end - start) (drop start s))) ++ (take (end - start) (drop start s) ++ drop end s) ≡ drop at s
 delimited-same s at start end a e =
     let b = delimited-behind s at start end false e in

@@ -1,9 +1,9 @@
 -- Bytes in the written form come out unchanged: their fields are written as they stand, and reading by the table and writing gives the same fields.
+use Rattle.std.specs.Prelude.{None, Some}
 use Prim.Native.Nat.{ℕ, zero, suc, ◌-◌, ◌<◌}
 use mathlib.Core.Path.{◌≡◌, refl, sym, ap, ap₂, ◌∙◌, subst}
 use mathlib.Core.List.{List, [], ◌∷◌, ◌++◌, map, append-nil, append_assoc}
 use mathlib.Core.Bool.{Bool, true, false, not, true≢false}
-use mathlib.Core.Option.{none}
 use native.Mathlib.Omega.{arith}
 use borrow.Author.Tests.{not-true, eq-eqb, ne_eqb, eqb-true, eqb-false, ltb-true}
 use lib.Dec.{eqb}
@@ -18,7 +18,6 @@ use Rattle.protobuf.specs.Each.{Each}
 use Rattle.protobuf.specs.Field.{fields, field_at, field_step, fields_from}
 use Rattle.protobuf.specs.Write.{number_field, bytes_field, if_any, each}
 use Rattle.protobuf.specs.declared.Field.{Field}
-use Rattle.protobuf.specs.declared.Step.TheVariants.{Field as Whole}
 use Rattle.protobuf.proofs.EachLaws.{each-so, each_both, each_append, each_map}
 use Rattle.form.proofs.Fields.{each-parts, step_field, field-same}
 use Rattle.form.specs.Form.{is_list, ascending, is_shortest, form_by, fits_kind, is_known, in_form}
@@ -49,7 +48,7 @@ abbrev Plain : Content → Type 0
 Plain f = (f.padded ≡ false) × ((f.wire ≡ 0 → ⊥) → f.wire ≡ 2)
 
 module _ (s : List ℕ) (a : AreBytes s) where
-  field-again : (at : ℕ) (f : Field) → field_at s at ≡ Whole f → Plain (content_of s f) → field_bytes (content_of s f) ++ drop f.end s ≡ drop at s
+  field-again : (at : ℕ) (f : Field) → field_at s at ≡ Some f → Plain (content_of s f) → field_bytes (content_of s f) ++ drop f.end s ≡ drop at s
   field-again at f e p =
       let w = field-same s a at f e p.0 in
       split (eqb f.wire 0)
@@ -103,7 +102,7 @@ module _ (n w : ℕ) where
     abbrev Wrote : (Content → A) → Content → Type 0
     Wrote g f = write (g f) ≡ field_bytes f
 
-    last-again : (g : Content → A) (l : List Content) → Single l → Each Alike l → Each (Wrote g) l → if_any write (last_one g none (alike n w l)) ≡ each field_bytes l
+    last-again : (g : Content → A) (l : List Content) → Single l → Each Alike l → Each (Wrote g) l → if_any write (last_one g None (alike n w l)) ≡ each field_bytes l
     unfolding if_any last_one each
     last-again g [] s h k = rw (alike_all [] tt)
     last-again g (f ∷ []) s h k = rw (alike_all (f ∷ []) h, append-nil (field_bytes f)) k.0

@@ -1,9 +1,9 @@
 -- What a table writes is in the written form.
+use Rattle.std.specs.Prelude.{None, Some}
 use Prim.Native.Nat.{ℕ, ◌≤◌, ◌<◌}
 use mathlib.Core.Path.{◌≡◌, refl, ap, ◌∙◌}
 use mathlib.Core.List.{List, [], ◌∷◌, ◌++◌}
 use mathlib.Core.Bool.{true, false, not}
-use mathlib.Core.Option.{none, some}
 use native.Mathlib.Omega.{arith}
 use borrow.Author.Tests.{lt-ltb, le-leb}
 use Rattle.buffer.proofs.Tests.{split}
@@ -19,17 +19,17 @@ use Rattle.form.proofs.TableForm.{Passes, tests-form, known-row, known-later, Ag
 -- a row has one field at most where it is not a list
 single : (k : Kind) (n : ℕ) (v : Value k) → is_list k ≡ false → Single (kind_fields k n v)
 unfolding kind_fields
-single uint32 n none h = tt
-single uint32 n (some x) h = tt
-single bool n none h = tt
-single bool n (some x) h = tt
-single bytes n none h = tt
-single bytes n (some x) h = tt
-single string n none h = tt
-single string n (some x) h = tt
+single uint32 n None h = tt
+single uint32 n (Some x) h = tt
+single bool n None h = tt
+single bool n (Some x) h = tt
+single bytes n None h = tt
+single bytes n (Some x) h = tt
+single string n None h = tt
+single string n (Some x) h = tt
 single strings n v h = let z : ◌≡◌ {A = ℕ} 0 1 = cc in absurd (omega arith)
-single (message T) n none h = tt
-single (message T) n (some x) h = tt
+single (message T) n None h = tt
+single (message T) n (Some x) h = tt
 single (messages T) n v h = let z : ◌≡◌ {A = ℕ} 0 1 = cc in absurd (omega arith)
 
 -- ascending: the fields of a row, and behind them those of later rows
@@ -72,18 +72,18 @@ mutual
   unfolding kind_fields fields_in fits_kind
 
   kind-known : (k : Kind) (n : ℕ) (v : Value k) → FitRow n k v → Each (Passes (fits_kind k)) (kind_fields k n v)
-  kind-known uint32 n none w = tt
-  kind-known uint32 n (some x) w = (lt-ltb x _ (let z = w.small in omega arith), tt)
-  kind-known bool n none w = tt
-  kind-known bool n (some true) w = (refl, tt)
-  kind-known bool n (some false) w = (refl, tt)
-  kind-known bytes n none w = tt
-  kind-known bytes n (some bs) w = (refl, tt)
-  kind-known string n none w = tt
-  kind-known string n (some bs) w = (refl, tt)
+  kind-known uint32 n None w = tt
+  kind-known uint32 n (Some x) w = (lt-ltb x _ (let z = w.small in omega arith), tt)
+  kind-known bool n None w = tt
+  kind-known bool n (Some true) w = (refl, tt)
+  kind-known bool n (Some false) w = (refl, tt)
+  kind-known bytes n None w = tt
+  kind-known bytes n (Some bs) w = (refl, tt)
+  kind-known string n None w = tt
+  kind-known string n (Some bs) w = (refl, tt)
   kind-known strings n v w = each_over (Passes (fits_kind strings)) (bytes_content n) v (each_all _ (λ bs. refl) v)
-  kind-known (message T) n none w = tt
-  kind-known (message T) n (some m) w = (message-formed T m (held_fits w) (table-known T 0 m (held_fits w)), tt)
+  kind-known (message T) n None w = tt
+  kind-known (message T) n (Some m) w = (message-formed T m (held_fits w) (table-known T 0 m (held_fits w)), tt)
   kind-known (messages T) n v w =
       each_over (Passes (fits_kind (messages T))) (λ (m : Values T). bytes_content n (write_by T m)) v
       (each-so (Fit 0 T) (λ (m : Values T). form_by T (is_known T) (write_by T m) ≡ true) (λ m f. message-formed T m f (table-known T 0 m f)) v (each_fits n T v w))

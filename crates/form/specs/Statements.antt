@@ -1,7 +1,6 @@
 -- What is proved of the written form: of varints, of records, of messages.
 use Rattle.std.specs.Prelude.{ℕ, ◌^◌, ◌<◌, ◌≡◌, List, [], ◌∷◌, ◌++◌, map, Bool, true, false, length, drop}
-use Rattle.varint.specs.Varint.{varint_at, varint}
-use Rattle.varint.specs.declared.Varint.TheVariants.{Number}
+use Rattle.varint.specs.Varint.{varint_at, varint, stands}
 use Rattle.tlv.specs.Record.{Tlv, records, payload}
 use Rattle.tlv.specs.Statements.{Fitting}
 use Rattle.tables.specs.Table.{uint32, bool, strings, message, Table, end, row, Values, read_by, write_by}
@@ -12,7 +11,7 @@ use Rattle.form.specs.Form.{in_form}
 
 -- bytes that spell a number and are not padded are those that are written for it
 abbrev pub NumberUnchanged : Type 0
-NumberUnchanged = (s : List ℕ) (at v next : ℕ) → AreBytes s → varint_at s at ≡ Number v next false → varint v ++ drop next s ≡ drop at s
+NumberUnchanged = (s : List ℕ) (at v next : ℕ) → AreBytes s → varint_at s at ≡ stands v next false → varint v ++ drop next s ≡ drop at s
 
 -- records: what is written is in the written form, and bytes in that form come out unchanged
 pub record RecordsFormed : Type 0 where

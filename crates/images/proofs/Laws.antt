@@ -1,4 +1,5 @@
 -- Laws of the images' records: what each step of the code appends, and at most how many bytes they take.
+use Rattle.std.specs.Prelude.{None, Option, Some}
 use Prim.Native.Nat.{ℕ, ◌+◌, ◌-◌, ◌≤◌}
 use mathlib.Core.Path.{◌≡◌}
 use mathlib.Core.List.{List, [], ◌++◌}
@@ -13,12 +14,11 @@ use Rattle.buffer.specs.Same.{same_bytes}
 use Rattle.buffer.proofs.Puts.{appended-put, appended-join}
 use Rattle.encode_image.specs.Write.{running_record, open_record, backup_record}
 use Rattle.encode_image.proofs.Sizes.{running-most, open-most, backup-most}
-use Rattle.schedule.specs.declared.Moment.{Moment}
-use Rattle.schedule.specs.declared.Moment.TheVariants.{At, Absent}
 use Rattle.state.specs.declared.Images.{Images}
 use Rattle.state.specs.declared.Pending.{Pending}
 use Rattle.transfer.specs.Blocks.{blocks}
 use Rattle.images.specs.Images.{load_time_of, map_length, open_shown, backup_shown, images_shown}
+use Rattle.schedule.specs.declared.Point.{Point}
 
 -- the records that are shown where a flag is set
 module _ {out : List ℕ} {at : ℕ} where
@@ -33,7 +33,7 @@ module _ {out : List ℕ} {at : ℕ} where
     unfolding open_shown
     open-not e p = shown-not i.«open» _ e p
 
-    pub open-put : {left : List ℕ} {n len : ℕ} {time : Moment} → not i.«open» ≡ false → len ≡ map_length i.image
+    pub open-put : {left : List ℕ} {n len : ℕ} {time : Option Point} → not i.«open» ≡ false → len ≡ map_length i.image
         → time ≡ load_time_of i.pending i.image.hash → Put out at (open_record i.image len time) left n → Appended out at (open_shown i) left n
     unfolding open_shown
     open-put e k t p = shown i.«open» _ e (rw (k, t) at p)
@@ -42,23 +42,23 @@ module _ {out : List ℕ} {at : ℕ} where
     unfolding backup_shown
     backup-not e p = shown-not i.backup.given _ e p
 
-    pub backup-put : {left : List ℕ} {n : ℕ} {time : Moment} → not i.backup.given ≡ false → time ≡ load_time_of i.pending i.backup.bytes
+    pub backup-put : {left : List ℕ} {n : ℕ} {time : Option Point} → not i.backup.given ≡ false → time ≡ load_time_of i.pending i.backup.bytes
         → Put out at (backup_record i.backup.bytes time) left n → Appended out at (backup_shown i) left n
     unfolding backup_shown
     backup-put e t p = shown i.backup.given _ e (rw t at p)
 
 -- the load time of a hash
 module _ (p : Pending) (hash : List ℕ) where
-  pub time-none : not p.is ≡ true → Absent ≡ load_time_of p hash
+  pub time-none : not p.is ≡ true → None ≡ load_time_of p hash
   unfolding load_time_of
   time-none e = rw (not-true p.is e)
 
   module _ (same : Bool) (h : not p.is ≡ false) (e : same ≡ same_bytes p.hash hash) where
-    pub time-other : not same ≡ true → Absent ≡ load_time_of p hash
+    pub time-other : not same ≡ true → None ≡ load_time_of p hash
     unfolding load_time_of
     time-other k = rw (not-false p.is h, ← e, not-true same k)
 
-    pub time-same : not same ≡ false → At p.time ≡ load_time_of p hash
+    pub time-same : not same ≡ false → Some p.time ≡ load_time_of p hash
     unfolding load_time_of
     time-same k = rw (not-false p.is h, ← e, not-false same k)
 

@@ -1,18 +1,17 @@
 -- FirmwareImageInfo (75), document 01, "Transfer": the running image, the open one and the backup.
-use Rattle.std.specs.Prelude.{ℕ, ◌+◌, ◌/◌, List, [], ◌++◌, ◌&&◌}
+use Rattle.std.specs.Prelude.{ℕ, ◌+◌, ◌/◌, List, [], ◌++◌, ◌&&◌, None, Option, Some}
 use Rattle.buffer.specs.Pick.{pick}
 use Rattle.buffer.specs.Same.{same_bytes}
 use Rattle.csmp.specs.declared.Image.{Image}
 use Rattle.encode_image.specs.Write.{running_record, open_record, backup_record}
-use Rattle.schedule.specs.declared.Moment.{Moment}
-use Rattle.schedule.specs.declared.Moment.TheVariants.{At, Absent}
 use Rattle.state.specs.declared.Images.{Images}
 use Rattle.state.specs.declared.Pending.{Pending}
 use Rattle.transfer.specs.Blocks.{blocks}
+use Rattle.schedule.specs.declared.Point.{Point}
 
 -- loadTime if the hash is pending
-unfoldable pub load_time_of : Pending → List ℕ → Moment
-load_time_of p hash = pick (p.is && same_bytes p.hash hash) (At p.time) Absent
+unfoldable pub load_time_of : Pending → List ℕ → Option Point
+load_time_of p hash = pick (p.is && same_bytes p.hash hash) (Some p.time) None
 
 -- the bitmap has ceil(blocks/8) bytes
 unfoldable pub map_length : Image → ℕ

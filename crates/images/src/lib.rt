@@ -6,22 +6,22 @@ ghost use Rattle.buffer.specs.Put.{Appended};
 ghost use Rattle.images.specs.Images.{load_time_of, map_length, open_shown, backup_shown, images_shown};
 
 use csmp::Image;
-use schedule::Moment;
+use schedule::Point;
 use state::{Images, Pending};
 
 // The load time of a hash, if it is pending.
-fn load_time(pending: Pending, hash: [u8; 32]) -> Moment
+fn load_time(pending: Pending, hash: [u8; 32]) -> Option<Point>
     ensures { result ≡ load_time_of pending hash }
 {
     if !pending.is {
-        return Moment::Absent;
+        return None;
     }
     let ours = pending.hash;
     if !buffer::same(&ours, &hash) {
-        return Moment::Absent;
+        return None;
     }
     let time = pending.time;
-    Moment::At(time)
+    Some(time)
 }
 
 // How many bytes of the bitmap the blocks take.

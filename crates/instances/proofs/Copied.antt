@@ -1,4 +1,5 @@
 -- Of records that the agent writes, one behind the other, a GET copies the stretches of the types that are asked for.
+use Rattle.std.specs.Prelude.{Some}
 use Prim.Native.Nat.{ℕ, ◌+◌, ◌-◌, ◌^◌, ◌<◌}
 use mathlib.Core.Path.{◌≡◌, refl, sym, ap, ◌∙◌}
 use mathlib.Core.List.{List, [], ◌++◌, append-nil, append_assoc}
@@ -18,7 +19,6 @@ use Rattle.tables.specs.Statements.{Texts}
 use Rattle.tables.specs.Table.{Values, write_by}
 use Rattle.tlv.proofs.Theorems.{standing, record-back}
 use Rattle.tlv.specs.Record.{record_at, record_bytes}
-use Rattle.tlv.specs.declared.Taken.TheVariants.{Record as Whole}
 use Rattle.calls.specs.Text.{table_of}
 
 -- such records of one type, with lengths that can be read
@@ -103,7 +103,7 @@ none-copied c = copies-start [] c ∙ copies-end [] c 0 (omega arith)
 -- what holds behind each such record, if it holds before it, holds before all of them
 module _ (s : List ℕ) (P : ℕ → Type 0)
     (step : (kind : ℕ) (v : Values (table_of kind)) (at : ℕ) → let w = write_by (table_of kind) v in is_own kind ≡ true
-    → record_at s at ≡ Whole (standing at kind w) → P (at + length (record_bytes kind w)) → P at) where
+    → record_at s at ≡ Some (standing at kind w) → P (at + length (record_bytes kind w)) → P at) where
   own-from : (kind : ℕ) {bs : List ℕ} → Own kind bs → (front rest : List ℕ) (at end : ℕ) → s ≡ front ++ (bs ++ rest) → at ≡ length front
       → end ≡ at + length bs → P end → P at
   own-from kind empty front rest at end e p q k = let z : end ≡ at = omega arith in rw z at k

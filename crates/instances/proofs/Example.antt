@@ -60,7 +60,7 @@ running = tt
 
 -- setup and calls, and those of the example
 calling : Unit {0}
-unfolding hw_id_of within valid_texts valid_settings first_state setup_of fine seen_in_store acceptable refusal_of refusal served_as served replied requested classed received datagram_of after_all shut_out runs steers any_steers feeds offers brought complete complete_in setup posts opening block0 block1 opened first_feed second_feed merge
+unfolding within valid_texts valid_settings first_state setup_of fine seen_in_store acceptable refusal_of refusal served_as served replied requested classed received datagram_of after_all shut_out runs steers any_steers feeds offers brought complete complete_in setup posts opening block0 block1 opened first_feed second_feed merge
 calling = tt
 
 valid : setup.outcome ≡ 0

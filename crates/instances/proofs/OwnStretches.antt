@@ -1,9 +1,9 @@
 -- The agent's own records, a stretch for each type.
+use Rattle.std.specs.Prelude.{None, Option, Some}
 use Prim.Native.Nat.{ℕ, ◌*◌, ◌^◌, ◌≤◌, ◌<◌}
 use mathlib.Core.Path.{refl}
 use mathlib.Core.List.{List, [], ◌∷◌, map}
 use mathlib.Core.Bool.{Bool, true}
-use mathlib.Core.Option.{Option, none, some}
 use native.Mathlib.Nat.{le_of_eq}
 use native.Mathlib.Omega.{arith}
 use lib.ListN.{length, take, length-append, length-take}
@@ -23,11 +23,9 @@ use Rattle.encode_image.proofs.Sizes.{running-most, backup-most}
 use Rattle.images.specs.Images.{load_time_of, open_shown, backup_shown, images_shown}
 use Rattle.own.specs.Own.{report_shown, groups_shown, own_records}
 use Rattle.protobuf.specs.Each.{IfAny}
-use Rattle.protobuf.specs.Given.{number_given, if_given}
+use Rattle.protobuf.specs.Given.{if_given}
 use Rattle.protobuf.specs.Write.{bytes_field, if_any, each}
 use Rattle.protobuf.proofs.SizeLaws.{number-most, bytes_most, number-if-most, bytes-if-most, take-most}
-use Rattle.schedule.specs.declared.Moment.{Moment}
-use Rattle.schedule.specs.declared.Moment.TheVariants.{Absent as Never}
 use Rattle.schedule.specs.declared.Point.{Point}
 use Rattle.state.specs.Groups.{held_pairs}
 use Rattle.state.specs.declared.Assigned.{Assigned}
@@ -59,44 +57,44 @@ pub report-own : (a : Assigned) → AssignedSized a → Own 13 (report_shown a)
 unfolding is_own report_shown report_record write_by written if_any each
 report-own a k =
     let ids = held a.ids in
-    let interval = number_given (interval_number a.interval) in
+    let interval = (interval_number a.interval) in
     let few = first-most a.ids.count 32 a.ids.list k.ids in
     pick-both (Own 13) a.reporting _ _
-    (λ _. single (interval, (map decimal ids, (none, ([], tt)))) refl (tt, (decimals-text ids k.each, (tt, (tt, tt))))
+    (λ _. single (interval, (map decimal ids, (None, ([], tt)))) refl (tt, (decimals-text ids k.each, (tt, (tt, tt))))
     (simp length-append (omega (arith, number-if-most 1 interval, ids-most ids))))
     (λ _. empty)
 
 -- 18
 pub time-own : (p : Point) → Own 18 (time_record p)
 unfolding is_own time_record
-time-own p = single (some p.0, (none, (none, tt))) refl (tt, (tt, (tt, tt))) (shorter 18 _ 14 (time-most p) (omega arith))
+time-own p = single (Some p.0, (None, (None, tt))) refl (tt, (tt, (tt, tt))) (shorter 18 _ 14 (time-most p) (omega arith))
 
 -- 58
 pub groups-own : (ps : List Pair) → Own 58 (groups_shown ps)
 unfolding is_own groups_shown group_record
 groups-own [] = empty
 groups-own (p ∷ ps) =
-    joined (single (some p.kind, (some p.id, tt)) refl (tt, (tt, tt)) (shorter 58 _ 25 (group-most p.kind p.id) (omega arith)))
+    joined (single (Some p.kind, (Some p.id, tt)) refl (tt, (tt, tt)) (shorter 58 _ 25 (group-most p.kind p.id) (omega arith)))
     (groups-own ps)
 
 -- 75: the name and the version are its strings
 image-own : (index : ℕ) (hash : List ℕ) (name version : Option (List ℕ)) (size block : Option ℕ) (bitmap : Option (List ℕ)) (running : Option Bool)
-    (time : Moment) → IfAny IsText name → IfAny IsText version → length (image_value index hash name version size block bitmap running time) < 2 ^ 64
+    (time : Option Point) → IfAny IsText name → IfAny IsText version → length (image_value index hash name version size block bitmap running time) < 2 ^ 64
     → Own 75 (record_bytes 75 (image_value index hash name version size block bitmap running time))
 unfolding is_own
 image-own index hash name version size block bitmap running time x y l =
     single
-    (some index, (some hash, (name, (version, (size, (block, (bitmap, (none, (running, (number_given (moment_number time), (none, (none, tt))))))))))))
+    (Some index, (Some hash, (name, (version, (size, (block, (bitmap, (None, (running, (moment_number time, (None, (None, tt))))))))))))
     refl (tt, (tt, (x, (y, (tt, (tt, (tt, (tt, (tt, (tt, (tt, (tt, tt)))))))))))) l
 
-open_own : (d : Device) (i : Image) (n : ℕ) (time : Moment) → OpenSized d i → IsText (take i.name.len i.name.bytes)
+open_own : (d : Device) (i : Image) (n : ℕ) (time : Option Point) → OpenSized d i → IsText (take i.name.len i.name.bytes)
     → IsText (take i.version.len i.version.bytes) → Own 75 (open_record i n time)
 unfolding open_record write_by written if_any
 open_own d i n time k name version =
     let x = take i.name.len i.name.bytes in
     let y = take i.version.len i.version.bytes in
     let bitmap = take n i.bitmap in
-    image-own 1 i.hash (if_given i.name.given x) (if_given i.version.given y) (some i.size) (some i.block_size) (some bitmap) none time
+    image-own 1 i.hash (if_given i.name.given x) (if_given i.version.given y) (Some i.size) (Some i.block_size) (Some bitmap) None time
     (given-text i.name.given x name) (given-text i.version.given y version)
     (simp length-append (omega (
       arith,
@@ -107,7 +105,7 @@ open_own d i n time k name version =
       number-most 5 i.size,
       number-most 6 i.block_size,
       bytes_most 7 128 bitmap (take-most n 128 i.bitmap k.bitmap),
-      number-if-most 10 (number_given (moment_number time)),
+      number-if-most 10 (moment_number time),
     )))
 
 -- of a closed image nothing is shown
@@ -116,12 +114,12 @@ unfolding images_shown open_shown backup_shown running_record backup_record
 images-own d i k =
     let time = load_time_of i.pending i.backup.bytes in
     joined
-    (image-own 0 i.running none none none none none (some true) Never tt tt
+    (image-own 0 i.running None None None None None (Some true) None tt tt
     (shorter 75 _ 71 (running-most i.running k.running) (omega arith)))
     (joined
     (pick-both (Own 75) i.«open» _ _ (λ e. open_own d i.image _ _ (k.opened e) k.name k.version) (λ _. empty))
     (pick-both (Own 75) i.backup.given _ _
-    (λ _. image-own 2 i.backup.bytes none none none none none none time tt tt
+    (λ _. image-own 2 i.backup.bytes None None None None None None time tt tt
     (shorter 75 _ 60 (backup-most i.backup.bytes k.backup time) (omega arith)))
     (λ _. empty)))
 

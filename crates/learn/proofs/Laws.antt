@@ -1,4 +1,5 @@
 -- Laws of the loop over an acknowledgement's records.
+use Rattle.std.specs.Prelude.{None, Some}
 use Prim.Native.Nat.{ℕ, ◌≤◌, ◌<◌}
 use mathlib.Core.Path.{◌≡◌}
 use mathlib.Core.List.{List, map}
@@ -10,7 +11,6 @@ use Rattle.state.specs.declared.Device.{Device}
 use Rattle.state.specs.declared.Registration.{Registration}
 use Rattle.tlv.specs.Record.{valued, records, readable, record_at, records_from, padded_among}
 use Rattle.tlv.specs.declared.Record.{Record}
-use Rattle.tlv.specs.declared.Taken.TheVariants.{Record as Whole, Unreadable}
 use Rattle.tlv.proofs.Laws.{records-end, records-more, records-unreadable}
 use Rattle.buffer.specs.Pick.{pick}
 use Rattle.learn.specs.Learn.{learnt_of, learnt_from, padded_in}
@@ -33,11 +33,11 @@ module _ (d : Device) (time : Point) (p : List ℕ) where
     unfolding learnt_at learnt_of
     learnt-end h = rw (records-end p at h)
 
-    pub learnt-unreadable : at < length p → record_at p at ≡ Unreadable → learnt_at at l ≡ marked l false
+    pub learnt-unreadable : at < length p → record_at p at ≡ None → learnt_at at l ≡ marked l false
     unfolding learnt_at learnt_of
     learnt-unreadable h e = rw (records-unreadable p at h e)
 
-    pub learnt-next : (r : Record) (n : Learnt) → record_at p at ≡ Whole r → n ≡ noted d time l r.kind (valued p r).value → learnt_at at l ≡ learnt_at r.end n
+    pub learnt-next : (r : Record) (n : Learnt) → record_at p at ≡ Some r → n ≡ noted d time l r.kind (valued p r).value → learnt_at at l ≡ learnt_at r.end n
     unfolding learnt_at learnt_of
     learnt-next r n e h = rw (records-more p at r e, h)
 

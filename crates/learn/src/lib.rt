@@ -7,7 +7,6 @@ ghost use Rattle.learn.specs.Learn.{learnt_from, padded_in};
 use note::Learnt;
 use schedule::Point;
 use state::{Assigned, Device, Registration};
-use tlv::Taken;
 
 // What a walk over an acknowledgement's payload has learnt, and whether a varint that it read is padded.
 #[derive(Clone, Copy)]
@@ -30,7 +29,7 @@ pub fn learn(
     let mut padded = false;
     let mut at = 0;
     while at < payload.len() {
-        let Taken::Record(r) = tlv::take_record(payload, at) else {
+        let Some(r) = tlv::take_record(payload, at) else {
             let learnt = note::mark(learnt, false);
             return Learned { learnt, padded };
         };

@@ -8,7 +8,7 @@ ghost use Rattle.calls.specs.Datagram.{datagram_of};
 ghost use Rattle.lister.specs.Line.{listed_device, call_of, Listed};
 
 use agent::{Length, Point, Settings, Setup, State};
-use capture::{Capture, Entry};
+use capture::{Entry, Index};
 use std::io;
 use std::io::Write;
 
@@ -82,16 +82,15 @@ fn list_entry<W: Write>(
     Ok(line.state)
 }
 
-// Prints the lines of so many entries, whose index begins at `index`.
-fn list_entries<W: Write>(writer: &mut W, s: &[u8], index: u32, count: u16) -> io::Result<()> {
+// Prints the lines of the entries of a capture.
+fn list_entries<W: Write>(writer: &mut W, s: &[u8], index: Index) -> io::Result<()> {
     let mut answers = [0u8; 4736];
     let mut image = [0u8; 4096];
     let made = device();
     let mut state = made.state;
     let mut start = 0;
-    let mut n = 0;
-    while n < count {
-        let entry = capture::entry_at(s, index as usize + n as usize * 8);
+    for n in 0..index.count {
+        let entry = capture::entry_at(s, index.at as usize + n as usize * 8);
         let bytes = capture::bytes_at(s, start, entry.len);
         state = list_entry(
             writer,
@@ -103,7 +102,6 @@ fn list_entries<W: Write>(writer: &mut W, s: &[u8], index: u32, count: u16) -> i
             entry,
         )?;
         start += entry.len as usize;
-        n += 1;
     }
     Ok(())
 }
@@ -124,8 +122,8 @@ fn list_refusal<W: Write>(writer: &mut W, outcome: u32) -> io::Result<()> {
 pub fn list<W: Write>(writer: &mut W, s: &[u8]) -> io::Result<()> {
     list_header(writer)?;
     let capture = capture::read(s);
-    let Capture::Index(index, count) = capture else {
+    let Some(index) = capture else {
         return list_refusal(writer, capture::outcome_of(capture));
     };
-    list_entries(writer, s, index, count)
+    list_entries(writer, s, index)
 }

@@ -28,10 +28,8 @@ fn put_hex(out: &mut [u8], at: usize, s: &[u8]) -> usize
     ensures { Appended out.old at (hex_of s.now) out.new result }
 {
     let mut end = at;
-    let mut i = 0;
-    while i < s.len() {
-        end = put_byte(out, end, s[i]);
-        i += 1;
+    for b in s {
+        end = put_byte(out, end, *b);
     }
     end
 }

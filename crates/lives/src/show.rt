@@ -29,10 +29,8 @@ fn bitmap<W: Write>(writer: &mut W, map: [u8; 128], blocks: u32) -> io::Result<(
 // Bytes as one number, high byte first, modulo 65,521.
 fn remainder(s: &[u8]) -> u64 {
     let mut sum = 0;
-    let mut i = 0;
-    while i < s.len() {
-        sum = (sum * 256 + buffer::wide(s[i])) % 65521;
-        i += 1;
+    for b in s {
+        sum = (sum * 256 + u64::from(*b)) % 65521;
     }
     sum
 }

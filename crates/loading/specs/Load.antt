@@ -1,13 +1,11 @@
 -- Records 68 to 70, document 01, "Transfer": the answers, first that applies.
-use Rattle.std.specs.Prelude.{ℕ, List, Bool, true, ◌&&◌, eqb}
+use Rattle.std.specs.Prelude.{ℕ, List, Bool, true, ◌&&◌, eqb, None, Option, Some}
 use Rattle.buffer.specs.Pick.{pick}
 use Rattle.buffer.specs.Same.{same_bytes}
 use Rattle.decode_image.specs.Read.{load_of, hash_of}
 use Rattle.decode_image.specs.declared.ImageHash.{ImageHash}
 use Rattle.decode_image.specs.declared.Load.{Load}
 use Rattle.schedule.specs.declared.Point.{Point}
-use Rattle.schedule.specs.declared.Moment.{Moment}
-use Rattle.schedule.specs.declared.Moment.TheVariants.{At, Absent}
 use Rattle.state.specs.Setup.{no_pending}
 use Rattle.state.specs.declared.Images.{Images}
 use Rattle.state.specs.declared.Pending.{Pending}
@@ -53,9 +51,9 @@ loads i hash time =
     (unchanged i (source_fault i hash))
 
 -- 68: 6 load time absent or 0
-unfoldable pub loads_at : Images → List ℕ → Moment → Answered
-loads_at i hash (At t) = pick (eqb t.0 0) (unchanged i 6) (loads i hash t)
-loads_at i hash Absent = unchanged i 6
+unfoldable pub loads_at : Images → List ℕ → Option Point → Answered
+loads_at i hash (Some t) = pick (eqb t.0 0) (unchanged i 6) (loads i hash t)
+loads_at i hash None = unchanged i 6
 
 -- 68: 6 hash bad; by what was read of the request, and by its value
 unfoldable pub load_taken : Images → List ℕ → Load → Answered

@@ -2,165 +2,145 @@
 #![tactic(auto)]
 
 ghost use Rattle.std.specs.Prelude.{◌≡◌};
+ghost use Rattle.firmware.specs.Answer.{answer_of, settled};
 ghost use Rattle.loading.specs.Load.{is_backup, is_pending, open_fault, source_fault, pending_fault, loads, load_taken, cancels, cancel_taken, backs, backup_taken, booted};
 
 use csmp::Hash;
 use decode_image::{ImageHash, Load};
-use firmware::Answered;
-use schedule::{Moment, Point};
+use firmware::Fault;
+use schedule::Point;
 use state::{Images, Pending};
 
+#[tactic(auto, unfolding(crate::specs::Load::is_backup))]
 fn is_backup(images: Images, hash: [u8; 32]) -> bool
     ensures { result ≡ is_backup images hash }
 {
-    let ours = images.backup.bytes;
-    firmware::is_given(images.backup.given, ours, hash)
+    images.backup.given && buffer::same(&images.backup.bytes, &hash)
 }
 
+#[tactic(auto, unfolding(crate::specs::Load::is_pending))]
 fn is_pending(images: Images, hash: [u8; 32]) -> bool
     ensures { result ≡ is_pending images hash }
 {
-    let ours = images.pending.hash;
-    firmware::is_given(images.pending.is, ours, hash)
+    images.pending.is && buffer::same(&images.pending.hash, &hash)
 }
 
-// 3 where the hash is not the open one, 2 where the open image is incomplete, else 0.
-fn open_fault(images: Images, hash: [u8; 32]) -> u32
-    ensures { result ≡ open_fault images hash }
+// The hash has to be the open one, and the open image complete.
+#[tactic(auto, unfolding(crate::specs::Load::open_fault, firmware::specs::Answer::answer_of))]
+fn open_fault(images: Images, hash: [u8; 32]) -> Result<(), Fault>
+    ensures { answer_of result ≡ open_fault images hash }
 {
     if !firmware::is_open(images, hash) {
-        return firmware::UNKNOWN_HASH;
+        return Err(Fault::UnknownHash);
     }
-    let image = images.image;
-    if !transfer::is_complete(image) {
-        return firmware::IMAGE_INCOMPLETE;
+    if !transfer::is_complete(images.image) {
+        return Err(Fault::ImageIncomplete);
     }
-    firmware::OK
+    Ok(())
 }
 
 // The backup may be loaded; another image must be open and complete.
-fn source_fault(images: Images, hash: [u8; 32]) -> u32
-    ensures { result ≡ source_fault images hash }
+#[tactic(auto, unfolding(crate::specs::Load::source_fault, firmware::specs::Answer::answer_of))]
+fn source_fault(images: Images, hash: [u8; 32]) -> Result<(), Fault>
+    ensures { answer_of result ≡ source_fault images hash }
 {
     if is_backup(images, hash) {
-        return firmware::OK;
+        return Ok(());
     }
     open_fault(images, hash)
 }
 
-// 8 where another hash is pending.
-fn pending_fault(images: Images, hash: [u8; 32]) -> u32
-    ensures { result ≡ pending_fault images hash }
+// No other hash may be pending.
+#[tactic(auto, unfolding(crate::specs::Load::pending_fault, firmware::specs::Answer::answer_of))]
+fn pending_fault(images: Images, hash: [u8; 32]) -> Result<(), Fault>
+    ensures { answer_of result ≡ pending_fault images hash }
 {
-    if !images.pending.is {
-        return firmware::OK;
+    if images.pending.is && !is_pending(images, hash) {
+        return Err(Fault::PendingReboot);
     }
-    if is_pending(images, hash) {
-        return firmware::OK;
-    }
-    firmware::PENDING_REBOOT
+    Ok(())
 }
 
 // The hash becomes pending; a new time replaces the old.
-fn load(images: Images, hash: [u8; 32], time: Point) -> Answered
-    ensures { result ≡ loads images hash time }
+#[tactic(auto, unfolding(crate::specs::Load::loads, firmware::specs::Answer::settled, firmware::specs::Answer::answer_of))]
+fn load(images: Images, hash: [u8; 32], time: Point) -> Result<Images, Fault>
+    ensures { settled images result ≡ loads images hash time }
 {
-    let source = source_fault(images, hash);
-    if source != 0 {
-        return firmware::keep(images, source);
-    }
-    let other = pending_fault(images, hash);
-    if other != 0 {
-        return firmware::keep(images, other);
-    }
-    let pending = Pending {
+    source_fault(images, hash)?;
+    pending_fault(images, hash)?;
+    let mut next = images;
+    next.pending = Pending {
         is: true,
         hash,
         time,
     };
-    let mut next = images;
-    next.pending = pending;
-    firmware::keep(next, firmware::OK)
+    Ok(next)
 }
 
 // What a LoadRequest does, by what was read of it: a bad hash, or no load time or 0, is invalid.
-pub fn answer_load(images: Images, v: &[u8], l: Load) -> Answered
-    ensures { result ≡ load_taken images v.now l }
+#[tactic(auto, unfolding(crate::specs::Load::load_taken, crate::specs::Load::loads_at, firmware::specs::Place::given_hash, firmware::specs::Answer::settled, firmware::specs::Answer::answer_of))]
+pub fn answer_load(images: Images, v: &[u8], l: Load) -> Result<Images, Fault>
+    ensures { settled images result ≡ load_taken images v.now l }
 {
-    let given = l.hash;
-    if !firmware::is_hash(given) {
-        return firmware::keep(images, firmware::INVALID_REQ);
+    let hash = firmware::given_hash(v, l.hash)?;
+    let time = l.time.ok_or(Fault::InvalidReq)?;
+    if time.0 == 0 {
+        return Err(Fault::InvalidReq);
     }
-    let time = l.time;
-    let Moment::At(t) = time else {
-        return firmware::keep(images, firmware::INVALID_REQ);
-    };
-    if t.0 == 0 {
-        return firmware::keep(images, firmware::INVALID_REQ);
-    }
-    load(images, firmware::hash_at(v, given), t)
+    load(images, hash, time)
 }
 
 // The pending hash is cleared; the running one can't be; others are unknown.
-fn cancel(images: Images, hash: [u8; 32]) -> Answered
-    ensures { result ≡ cancels images hash }
+#[tactic(auto, unfolding(crate::specs::Load::cancels, firmware::specs::Answer::settled, firmware::specs::Answer::answer_of))]
+fn cancel(images: Images, hash: [u8; 32]) -> Result<Images, Fault>
+    ensures { settled images result ≡ cancels images hash }
 {
     if is_pending(images, hash) {
-        let pending = state::no_pending();
         let mut next = images;
-        next.pending = pending;
-        return firmware::keep(next, firmware::OK);
+        next.pending = state::no_pending();
+        return Ok(next);
     }
-    let running = images.running;
-    if firmware::same_hash(running, hash) {
-        return firmware::keep(images, firmware::IMAGE_RUNNING);
+    if buffer::same(&images.running, &hash) {
+        return Err(Fault::ImageRunning);
     }
-    firmware::keep(images, firmware::UNKNOWN_HASH)
+    Err(Fault::UnknownHash)
 }
 
 // What a CancelLoadRequest does.
-pub fn answer_cancel(images: Images, v: &[u8], h: ImageHash) -> Answered
-    ensures { result ≡ cancel_taken images v.now h }
+#[tactic(auto, unfolding(crate::specs::Load::cancel_taken, firmware::specs::Place::given_hash, firmware::specs::Answer::settled, firmware::specs::Answer::answer_of))]
+pub fn answer_cancel(images: Images, v: &[u8], h: ImageHash) -> Result<Images, Fault>
+    ensures { settled images result ≡ cancel_taken images v.now h }
 {
-    let given = h.hash;
-    if !firmware::is_hash(given) {
-        return firmware::keep(images, firmware::INVALID_REQ);
-    }
-    cancel(images, firmware::hash_at(v, given))
+    cancel(images, firmware::given_hash(v, h.hash)?)
 }
 
 // The open and complete image becomes the backup, unless a load is pending.
-fn back_up(images: Images, hash: [u8; 32]) -> Answered
-    ensures { result ≡ backs images hash }
+#[tactic(auto, unfolding(crate::specs::Load::backs, firmware::specs::Answer::settled, firmware::specs::Answer::answer_of))]
+fn back_up(images: Images, hash: [u8; 32]) -> Result<Images, Fault>
+    ensures { settled images result ≡ backs images hash }
 {
-    let fault = open_fault(images, hash);
-    if fault != 0 {
-        return firmware::keep(images, fault);
-    }
+    open_fault(images, hash)?;
     if images.pending.is {
-        return firmware::keep(images, firmware::PENDING_REBOOT);
+        return Err(Fault::PendingReboot);
     }
-    let backup = Hash {
+    let mut next = images;
+    next.backup = Hash {
         given: true,
         bytes: hash,
     };
-    let mut next = images;
-    next.backup = backup;
-    firmware::keep(next, firmware::OK)
+    Ok(next)
 }
 
 // What a SetBackupRequest does.
-pub fn answer_backup(images: Images, v: &[u8], h: ImageHash) -> Answered
-    ensures { result ≡ backup_taken images v.now h }
+#[tactic(auto, unfolding(crate::specs::Load::backup_taken, firmware::specs::Place::given_hash, firmware::specs::Answer::settled, firmware::specs::Answer::answer_of))]
+pub fn answer_backup(images: Images, v: &[u8], h: ImageHash) -> Result<Images, Fault>
+    ensures { settled images result ≡ backup_taken images v.now h }
 {
-    let given = h.hash;
-    if !firmware::is_hash(given) {
-        return firmware::keep(images, firmware::INVALID_REQ);
-    }
-    back_up(images, firmware::hash_at(v, given))
+    back_up(images, firmware::given_hash(v, h.hash)?)
 }
 
 // A boot: the pending hash, if there is one, runs now, and no load is pending.
+#[tactic(auto, unfolding(crate::specs::Load::booted))]
 pub fn boot(images: Images) -> Images
     ensures { result ≡ booted images }
 {
@@ -168,9 +148,8 @@ pub fn boot(images: Images) -> Images
         return images;
     }
     let running = images.pending.hash;
-    let pending = state::no_pending();
     let mut next = images;
     next.running = running;
-    next.pending = pending;
+    next.pending = state::no_pending();
     next
 }

@@ -1,4 +1,5 @@
 -- Laws of the walk by a table: what a field does to what was found, and a message by the levels that are left.
+use Rattle.std.specs.Prelude.{None}
 use Prim.Native.Nat.{ℕ, zero, suc, ◌+◌, ◌-◌, ◌≤◌, ◌<◌}
 use mathlib.Core.Path.{◌≡◌, refl, sym, ap, ◌∙◌}
 use mathlib.Core.List.{List, [], ◌∷◌, ◌++◌}
@@ -10,10 +11,10 @@ use borrow.Rule.Slice.PartMut.{put_mid, Post-is}
 use lib.ListN.{length, take, drop, length-set, length-take, length-drop}
 use Rattle.buffer.specs.Walk.{Walked}
 use Rattle.protobuf.specs.Field.{bytes_of, fields_from}
+use Rattle.message.proofs.RowLaws.{row_found}
 use Rattle.message.specs.Read.{wire_of, row_in, noted, unpadded, joined, sealed, Scan, scanned, plain_read, held_read, known_read, field_read, read_all, message_read, read_into, Scanned}
 use Rattle.protobuf.specs.declared.Field.{Field}
 use Rattle.utf8.specs.Utf8.{is_utf8}
-use Rattle.message.specs.declared.Known.TheVariants.{Row as Knows, Nothing}
 use Rattle.message.specs.declared.Reading.{Reading}
 
 -- what a call leaves, by an equation
@@ -31,11 +32,11 @@ plain-text kind bs h = rw (le-ltb kind 9 h)
 
 -- a field, by what the table says of its number
 module _ (read : List ℕ → List ℕ → ℕ → List ℕ → Scan) (table cells : List ℕ) (base : ℕ) (s : List ℕ) (f : Field) where
-  pub field-unknown : row_in table f.number ≡ Nothing → field_read read table cells base s f ≡ scanned (unpadded true) cells
+  pub field-unknown : row_in table f.number ≡ None → field_read read table cells base s f ≡ scanned (unpadded true) cells
   unfolding field_read known_read
   field-unknown e = rw e
 
-  module _ (kind i e : ℕ) (k : row_in table f.number ≡ Knows kind i e) where
+  module _ (n kind i e : ℕ) (k : row_in table f.number ≡ row_found n kind i e) where
     pub field-other : (wire_of kind ≡ f.wire → ⊥) → field_read read table cells base s f ≡ scanned (unpadded true) cells
     unfolding field_read known_read
     field-other h = rw (k, ne_eqb (wire_of kind) f.wire h)
@@ -96,8 +97,8 @@ pub part-most : (k a : ℕ) (l : List ℕ) → length (take k (drop a l)) ≤ k
 part-most k a l = let e = length-take k (drop a l) in omega arith
 
 -- the message that a field holds, read in the part of what was found that its rows have
-module _ (read : List ℕ → List ℕ → ℕ → List ℕ → Scan) (table cells : List ℕ) (base : ℕ) (s : List ℕ) (f : Field) (kind i e : ℕ)
-    (k : row_in table f.number ≡ Knows kind i e) (h : wire_of kind ≡ f.wire) (l : 11 ≤ kind) (w : i + 3 ≤ e) (after : List ℕ) (n : after ≡ noted cells i base f) where
+module _ (read : List ℕ → List ℕ → ℕ → List ℕ → Scan) (table cells : List ℕ) (base : ℕ) (s : List ℕ) (f : Field) (n kind i e : ℕ)
+    (k : row_in table f.number ≡ row_found n kind i e) (h : wire_of kind ≡ f.wire) (l : 11 ≤ kind) (w : i + 3 ≤ e) (after : List ℕ) (q : after ≡ noted cells i base f) where
   pub field-into : {r : Reading} {left : List ℕ}
       → Scanned (read (take (e - (i + 3)) (drop (i + 3) table)) (take (e - (i + 3)) (drop (i + 3) after)) (base + f.start) (bytes_of s f)) r left
       → Scanned (field_read read table cells base s f) r (put_mid (i + 3) (e - (i + 3)) after left)
@@ -106,5 +107,5 @@ module _ (read : List ℕ → List ℕ → ℕ → List ℕ → Scan) (table cel
       let a = i + 3 in
       let z = read (take (e - a) (drop a table)) (take (e - a) (drop a after)) (base + f.start) (bytes_of s f) in
       leaves z.reading (take a after ++ (z.cells ++ drop e after))
-      (field-held read table cells base s f kind i e k h l ∙ ap (λ (c : List ℕ). held_read read table c a e (base + f.start) (bytes_of s f)) (sym n)) x.reading
+      (field-held read table cells base s f n kind i e k h l ∙ ap (λ (c : List ℕ). held_read read table c a e (base + f.start) (bytes_of s f)) (sym q)) x.reading
       (rw (Post-is a e after w, x.cells))

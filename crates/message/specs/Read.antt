@@ -1,50 +1,37 @@
 -- Reading a message by its table in one walk, document 01, "Records and fields": unknown fields, and known ones with another wire type, are
 -- skipped; the last one wins; the parts of a nested message merge; nesting stops at 4. Document 02, Q-8: a varint that is read is padded or not;
 -- Q-5: a string is well-formed UTF-8.
-use Rattle.std.specs.Prelude.{ℕ, zero, suc, ◌+◌, ◌-◌, ◌%◌, ◌^◌, ◌≡◌, List, [], ◌∷◌, ◌++◌, Bool, true, false, not, ◌&&◌, ◌||◌, length, get_or, set, take, drop, eqb, ltb}
+use Rattle.std.specs.Prelude.{ℕ, zero, suc, ◌+◌, ◌-◌, ◌%◌, ◌^◌, ◌≡◌, List, [], ◌∷◌, ◌++◌, Bool, true, false, not, ◌&&◌, ◌||◌, length, get_or, set, take, drop, eqb, ltb, None, Option, Some}
 use Rattle.buffer.specs.Pick.{pick}
 use Rattle.buffer.specs.Stretch.{stretch}
 use Rattle.buffer.specs.Walk.{Step, item, unreadable, walk}
-use Rattle.buffer.specs.declared.Stretch.{Stretch}
-use Rattle.buffer.specs.declared.Stretch.TheVariants.{To, Outside}
 use Rattle.protobuf.specs.Field.{fields, bytes_of}
-use Rattle.protobuf.specs.declared.Bytes.{Bytes}
-use Rattle.protobuf.specs.declared.Bytes.TheVariants.{At, Absent as NoBytes}
 use Rattle.protobuf.specs.declared.Field.{Field}
-use Rattle.protobuf.specs.declared.Flag.{Flag}
-use Rattle.protobuf.specs.declared.Flag.TheVariants.{Given as Told, Absent as NoFlag}
-use Rattle.protobuf.specs.declared.Number.{Number}
-use Rattle.protobuf.specs.declared.Number.TheVariants.{Given, Absent as NoNumber}
 use Rattle.utf8.specs.Utf8.{is_utf8}
 use Rattle.message.specs.declared.Reading.{Reading}
-use Rattle.message.specs.declared.Known.{Known}
-use Rattle.message.specs.declared.Known.TheVariants.{Row as Knows, Nothing}
+use Rattle.message.specs.declared.Row.{Row}
+use Rattle.protobuf.specs.Given.{spanning}
+use Rattle.protobuf.specs.declared.Span.{Span}
 
 -- A table is a list of numbers. A row is a field's number, its kind, and how many numbers the table of the message that it holds takes; that
 -- table stands behind it. Of a kind below 8 the wire type is 0, a varint, of another 2, length-delimited; 9 and 10 hold text, one from 11 on a
 -- message.
-pub record Row : Type 0 where
-  pub number : ℕ
-  pub kind : ℕ
-  pub at : ℕ
-  pub end : ℕ
-
 unfoldable pub wire_of : ℕ → ℕ
 wire_of kind = pick (ltb kind 8) 0 2
 
-unfoldable pub row_to : ℕ → ℕ → ℕ → Stretch → Step Row
-row_to n kind i (To end) = item (record { number = n; kind = kind; at = i; end = end }) end
-row_to n kind i Outside = unreadable
+unfoldable pub row_to : ℕ → ℕ → ℕ → Option ℕ → Step Row
+row_to n kind i (Some end) = item (record { number = n; kind = kind; at = i; end = end }) end
+row_to n kind i None = unreadable
 
 unfoldable pub row_step : List ℕ → ℕ → Step Row
 row_step table i = row_to (get_or table i 0) (get_or table (i + 1) 0) i (stretch (length table) (i + 3) (get_or table (i + 2) 0))
 
 -- what a table says of a field number: the first row that has it
-unfoldable pub first_row : ℕ → List Row → Known
-first_row n [] = Nothing
-first_row n (r ∷ rs) = pick (eqb r.number n) (Knows r.kind r.at r.end) (first_row n rs)
+unfoldable pub first_row : ℕ → List Row → Option Row
+first_row n [] = None
+first_row n (r ∷ rs) = pick (eqb r.number n) (Some r) (first_row n rs)
 
-unfoldable pub row_in : List ℕ → ℕ → Known
+unfoldable pub row_in : List ℕ → ℕ → Option Row
 row_in table n = first_row n (walk row_step table 0).items
 
 -- What is found of a row stands at the row's place in a list as long as the table: how many fields there were (up to 2^32 - 1); of the last
@@ -94,13 +81,13 @@ module _ (read : List ℕ → List ℕ → ℕ → List ℕ → Scan) where
   held_read table cells a e base bs = spliced cells a e (read (take (e - a) (drop a table)) (take (e - a) (drop a cells)) base bs)
 
   -- a field, by what the table says of its number
-  unfoldable pub known_read : List ℕ → List ℕ → ℕ → List ℕ → Field → Known → Scan
-  known_read table cells base s f (Knows kind i e) =
-      pick (eqb (wire_of kind) f.wire)
-      (pick (ltb kind 11) (scanned (plain_read kind (bytes_of s f)) (noted cells i base f))
-      (held_read table (noted cells i base f) (i + 3) e (base + f.start) (bytes_of s f)))
+  unfoldable pub known_read : List ℕ → List ℕ → ℕ → List ℕ → Field → Option Row → Scan
+  known_read table cells base s f (Some x) =
+      pick (eqb (wire_of x.kind) f.wire)
+      (pick (ltb x.kind 11) (scanned (plain_read x.kind (bytes_of s f)) (noted cells x.at base f))
+      (held_read table (noted cells x.at base f) (x.at + 3) x.end (base + f.start) (bytes_of s f)))
       (scanned (unpadded true) cells)
-  known_read table cells base s f Nothing = scanned (unpadded true) cells
+  known_read table cells base s f None = scanned (unpadded true) cells
 
   unfoldable pub field_read : List ℕ → List ℕ → ℕ → List ℕ → Field → Scan
   field_read table cells base s f = known_read table cells base s f (row_in table f.number)
@@ -131,11 +118,11 @@ abbrev pub limited : Reading → Bool → Reading
 limited x within = record { readable = x.readable && within; padded = x.padded }
 
 -- what counts of a row, by what was found of it: uint32 takes the low 32 bits; a bool is true unless 0; bytes by their place in the value
-unfoldable pub number_of : ℕ → ℕ → Number
-number_of count first = pick (eqb count 0) NoNumber (Given (first % 2 ^ 32))
+unfoldable pub number_of : ℕ → ℕ → Option ℕ
+number_of count first = pick (eqb count 0) None (Some (first % 2 ^ 32))
 
-unfoldable pub flag_of : ℕ → ℕ → Flag
-flag_of count first = pick (eqb count 0) NoFlag (Told (not (eqb first 0)))
+unfoldable pub flag_of : ℕ → ℕ → Option Bool
+flag_of count first = pick (eqb count 0) None (Some (not (eqb first 0)))
 
-unfoldable pub place_of : ℕ → ℕ → ℕ → Bytes
-place_of count start stop = pick (eqb count 0) NoBytes (At start stop)
+unfoldable pub place_of : ℕ → ℕ → ℕ → Option Span
+place_of count start stop = pick (eqb count 0) None (spanning start stop)

@@ -9,7 +9,7 @@ ghost use Rattle.std.specs.Prelude.{◌≡◌, ◌+◌, ◌^◌, ◌≤◌, ◌<
 ghost use Rattle.protobuf.specs.Field.{bytes_of};
 ghost use Rattle.message.specs.Read.{wire_of, row_in, count_more, first_of, noted, unpadded, joined, sealed, plain_read, field_read, message_read, read_into, Scanned, limited, number_of, flag_of, place_of};
 
-use protobuf::{Bytes, Field, Flag, Number, Step};
+use protobuf::{Field, Span};
 
 // The kinds of fields. Those below 8 are varints, the others bytes; 9 and 10 are text, those from 11 on hold messages.
 pub const UINT32: u32 = 0;
@@ -31,11 +31,13 @@ pub struct Reading {
     pub padded: bool,
 }
 
-// What a table says of a field number: the kind of its row, where the row stands, and where what it holds ends.
+// A row of a table: the number of its field, its kind, where it stands, and where what it holds ends.
 #[derive(Clone, Copy)]
-pub enum Known {
-    Row(u32, usize, usize),
-    Nothing,
+pub struct Row {
+    pub number: u32,
+    pub kind: u32,
+    pub at: usize,
+    pub end: usize,
 }
 
 fn wire_of(kind: u32) -> u8
@@ -47,26 +49,31 @@ fn wire_of(kind: u32) -> u8
     2
 }
 
-// The first row of a field number.
-fn row_of(table: &[u32], number: u32) -> Known
+// The first row of a field number, if the table has one.
+fn row_of(table: &[u32], number: u32) -> Option<Row>
     ensures { result ≡ row_in table.now number }
 {
     let mut i = 0;
     while i < table.len() {
         if table.len() - i < 3 {
-            return Known::Nothing;
+            return None;
         }
         let start = i + 3;
         let len = table[i + 2] as usize;
         if table.len() - start < len {
-            return Known::Nothing;
+            return None;
         }
         if table[i] == number {
-            return Known::Row(table[i + 1], i, start + len);
+            return Some(Row {
+                number: table[i],
+                kind: table[i + 1],
+                at: i,
+                end: start + len,
+            });
         }
         i = start + len;
     }
-    Known::Nothing
+    None
 }
 
 // One more, up to 2^32 - 1.
@@ -159,7 +166,7 @@ fn read_message(v: &[u8], base: usize, table: &[u32], cells: &mut [usize], depth
     let mut reading = told(true);
     let mut at = 0;
     while at < v.len() {
-        let Step::Field(f) = protobuf::field_at(v, at) else {
+        let Some(f) = protobuf::field_at(v, at) else {
             return cut(reading);
         };
         let held = read_field(v, base, f, table, cells, depth - 1);
@@ -195,17 +202,17 @@ fn read_field(
     requires { (length cells.old ≡ length table.now) × (base + length v.now < 2 ^ 64) × (f.start ≤ f.end) × (f.end ≤ length v.now) }
     ensures { Scanned (field_read (message_read depth) table.now cells.old base v.now f) result cells.new }
 {
-    let Known::Row(kind, i, end) = row_of(table, f.number) else {
+    let Some(Row { kind, at, end, .. }) = row_of(table, f.number) else {
         return told(true);
     };
     if wire_of(kind) != f.wire {
         return told(true);
     }
-    note(cells, i, base, f);
+    note(cells, at, base, f);
     if kind < PART {
         return read_plain(v, kind, f);
     }
-    let from = i + 3;
+    let from = at + 3;
     let a = f.start;
     let b = f.end;
     read_message(
@@ -228,31 +235,22 @@ pub fn limit(reading: Reading, within: bool) -> Reading
 }
 
 // What counts of a row, by what was found of it. A uint32 takes the low 32 bits.
-pub fn number(count: usize, first: usize) -> Number
+pub fn number(count: usize, first: usize) -> Option<u32>
     ensures { result ≡ number_of count first }
 {
-    if count == 0 {
-        return Number::Absent;
-    }
-    Number::Given((first % 4294967296) as u32)
+    (count != 0).then_some((first % 4294967296) as u32)
 }
 
 // A bool is true unless 0.
-pub fn flag(count: usize, first: usize) -> Flag
+pub fn flag(count: usize, first: usize) -> Option<bool>
     ensures { result ≡ flag_of count first }
 {
-    if count == 0 {
-        return Flag::Absent;
-    }
-    Flag::Given(first != 0)
+    (count != 0).then_some(first != 0)
 }
 
 // Bytes or a string, by their place in the value.
-pub fn bytes(count: usize, start: usize, end: usize) -> Bytes
+pub fn bytes(count: usize, start: usize, end: usize) -> Option<Span>
     ensures { result ≡ place_of count start «end» }
 {
-    if count == 0 {
-        return Bytes::Absent;
-    }
-    Bytes::At(start, end)
+    (count != 0).then_some(Span { start, end })
 }

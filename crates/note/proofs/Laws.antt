@@ -1,4 +1,5 @@
 -- Laws of one record of an acknowledgement: what each test of the code says of the definitions.
+use Rattle.std.specs.Prelude.{None, Option, Some}
 use Prim.Native.Nat.{ℕ, ◌≤◌, ◌<◌}
 use mathlib.Core.Path.{◌≡◌, ap, ◌∙◌}
 use mathlib.Core.List.{List}
@@ -9,10 +10,10 @@ use Rattle.decode_report.specs.Report.{report_of}
 use Rattle.decode.specs.declared.Group.{Group}
 use Rattle.message.specs.Read.{unpadded}
 use Rattle.message.specs.declared.Reading.{Reading}
-use Rattle.protobuf.specs.declared.Number.TheVariants.{Given, Absent}
 use Rattle.schedule.specs.declared.Point.{Point}
 use Rattle.state.specs.declared.Assigned.{Assigned}
 use Rattle.state.specs.declared.Device.{Device}
+use Rattle.state.specs.declared.Groups.{Groups}
 use Rattle.assign.specs.Assign.{with_session, with_report, regrouped}
 use Rattle.note.specs.Note.{reading_at, marked, with_assigned, redirect_noted, session_noted, report_noted, with_regrouped, group_assigned, with_group, group_noted, validity_noted, signature_noted, noted}
 use Rattle.note.specs.declared.Learnt.{Learnt}
@@ -23,20 +24,20 @@ module _ (l : Learnt) (kind id : ℕ) where
   unfolding group_assigned
   ninth-unreadable h = rw (le-leb 8 l.group_assigns h)
 
-  pub eight-assigned : l.group_assigns < 8 → with_regrouped l (regrouped l.assigned.groups kind id) ≡ group_assigned l kind id
+  pub eight-assigned : l.group_assigns < 8 → (groups : Option Groups) → regrouped l.assigned.groups kind id ≡ groups → with_regrouped l groups ≡ group_assigned l kind id
   unfolding group_assigned
-  eight-assigned h = rw (lt-leb 8 l.group_assigns h)
+  eight-assigned h groups e = rw (lt-leb 8 l.group_assigns h, e)
 
 module _ (l : Learnt) (m : Group) where
-  pub group-kindless : m.kind ≡ Absent → with_group l m ≡ l
+  pub group-kindless : m.kind ≡ None → with_group l m ≡ l
   unfolding with_group
   group-kindless h = rw h
 
-  pub group-idless : (kind : ℕ) → m.kind ≡ Given kind → m.id ≡ Absent → with_group l m ≡ l
+  pub group-idless : (kind : ℕ) → m.kind ≡ Some kind → m.id ≡ None → with_group l m ≡ l
   unfolding with_group
   group-idless kind h k = rw (h, k)
 
-  pub group-whole : (kind id : ℕ) → m.kind ≡ Given kind → m.id ≡ Given id → with_group l m ≡ group_assigned l kind id
+  pub group-whole : (kind id : ℕ) → m.kind ≡ Some kind → m.id ≡ Some id → with_group l m ≡ group_assigned l kind id
   unfolding with_group
   group-whole kind id h k = rw (h, k)
 

@@ -1,6 +1,6 @@
 -- What one record of an acknowledgement says, document 01, "Registration and reports", as document 02, Q-3, amends it; padding, Q-8;
 -- text, Q-5: a value with a string that is no text can't be read.
-use Rattle.std.specs.Prelude.{ℕ, ◌+◌, List, Bool, true, false, ◌&&◌, ◌||◌, eqb, leb}
+use Rattle.std.specs.Prelude.{ℕ, ◌+◌, List, Bool, true, false, ◌&&◌, ◌||◌, eqb, leb, None, Option, Some}
 use Rattle.buffer.specs.Pick.{pick}
 use Rattle.decode.specs.Read.{redirect_of, session_of, group_of, validity_of, signature_of}
 use Rattle.decode_report.specs.Report.{report_of}
@@ -8,15 +8,13 @@ use Rattle.decode.specs.declared.Group.{Group}
 use Rattle.message.specs.Read.{unpadded}
 use Rattle.message.specs.declared.Reading.{Reading}
 use Rattle.post.specs.Value.{is_expired}
-use Rattle.protobuf.specs.declared.Number.{Number}
-use Rattle.protobuf.specs.declared.Number.TheVariants.{Given, Absent}
 use Rattle.registration.specs.Redirect.{followed, url_in, redirected}
 use Rattle.schedule.specs.declared.Point.{Point}
 use Rattle.state.specs.declared.Assigned.{Assigned}
 use Rattle.state.specs.declared.Device.{Device}
+use Rattle.state.specs.declared.Groups.{Groups}
 use Rattle.state.specs.declared.Registration.{Registration}
 use Rattle.assign.specs.Assign.{with_session, with_report, regrouped, holding}
-use Rattle.assign.specs.declared.Regrouped.{Regrouped}
 use Rattle.note.specs.declared.Learnt.{Learnt}
 
 -- what is read of a value of 6, 7, 13, 55, 76, 77; others are skipped unread
@@ -97,17 +95,28 @@ unfoldable pub report_noted : Learnt → List ℕ → Learnt
 report_noted l v = marked (with_assigned l (with_report l.assigned v)) (report_of v).reading.readable
 
 -- 55: one assignment more, and whether it would need a ninth group
-abbrev pub with_regrouped : Learnt → Regrouped → Learnt
-with_regrouped l r =
+abbrev pub with_regrouped : Learnt → Option Groups → Learnt
+with_regrouped l None =
     record {
       readable = l.readable;
       signed = l.signed;
       expired = l.expired;
       redirected = l.redirected;
       registration = l.registration;
-      assigned = holding l.assigned r.groups;
+      assigned = l.assigned;
       group_assigns = l.group_assigns + 1;
-      needs_ninth = l.needs_ninth || r.needs_ninth;
+      needs_ninth = true;
+    }
+with_regrouped l (Some groups) =
+    record {
+      readable = l.readable;
+      signed = l.signed;
+      expired = l.expired;
+      redirected = l.redirected;
+      registration = l.registration;
+      assigned = holding l.assigned groups;
+      group_assigns = l.group_assigns + 1;
+      needs_ninth = l.needs_ninth;
     }
 
 -- over 8 complete ones make it unreadable, whatever their types
@@ -115,10 +124,10 @@ unfoldable pub group_assigned : Learnt → ℕ → ℕ → Learnt
 group_assigned l kind id = pick (leb 8 l.group_assigns) (marked l false) (with_regrouped l (regrouped l.assigned.groups kind id))
 
 -- an incomplete one is ignored
-abbrev pub grouped : Learnt → Number → Number → Learnt
-grouped l Absent id = l
-grouped l (Given kind) Absent = l
-grouped l (Given kind) (Given id) = group_assigned l kind id
+abbrev pub grouped : Learnt → Option ℕ → Option ℕ → Learnt
+grouped l None id = l
+grouped l (Some kind) None = l
+grouped l (Some kind) (Some id) = group_assigned l kind id
 
 unfoldable pub with_group : Learnt → Group → Learnt
 with_group l m = grouped l m.kind m.id

@@ -8,7 +8,6 @@ ghost use Rattle.note.specs.Note.{reading_at, nothing_learnt, marked, group_assi
 
 use decode::Group;
 use message::Reading;
-use protobuf::Number;
 use schedule::Point;
 use state::{Assigned, Device, Registration};
 
@@ -92,16 +91,22 @@ fn assign_group(learnt: Learnt, kind: u32, id: u32) -> Learnt
     if 8 <= n {
         return mark(learnt, false);
     }
-    let old = learnt.assigned.groups;
-    let regrouped = assign::regroup(old, kind, id);
-    let groups = regrouped.groups;
-    let mut assigned = learnt.assigned;
-    assigned.groups = groups;
-    let mut next = learnt;
-    next.assigned = assigned;
-    next.group_assigns = n + 1;
-    next.needs_ninth = buffer::either(learnt.needs_ninth, regrouped.needs_ninth);
-    next
+    let group_assigns = n + 1;
+    let Some(groups) = assign::regroup(learnt.assigned.groups, kind, id) else {
+        return Learnt {
+            group_assigns,
+            needs_ninth: true,
+            ..learnt
+        };
+    };
+    Learnt {
+        assigned: Assigned {
+            groups,
+            ..learnt.assigned
+        },
+        group_assigns,
+        ..learnt
+    }
 }
 
 // A complete GroupAssign; another is ignored.
@@ -110,10 +115,10 @@ fn with_group(learnt: Learnt, m: Group) -> Learnt
 {
     let given_kind = m.kind;
     let given_id = m.id;
-    let Number::Given(kind) = given_kind else {
+    let Some(kind) = given_kind else {
         return learnt;
     };
-    let Number::Given(id) = given_id else {
+    let Some(id) = given_id else {
         return learnt;
     };
     assign_group(learnt, kind, id)

@@ -1,12 +1,10 @@
 -- Record 65, document 01, "Transfer": the answers, first that applies.
-use Rattle.std.specs.Prelude.{ℕ, List, Bool, true, false, not, ◌&&◌, ◌||◌, take, replicate, eqb, ltb}
+use Rattle.std.specs.Prelude.{ℕ, List, Bool, true, false, not, ◌&&◌, ◌||◌, take, replicate, eqb, ltb, None, Option, Some}
 use Rattle.buffer.specs.Pick.{pick}
 use Rattle.csmp.specs.Values.{at_most, field_is}
 use Rattle.decode_image.specs.Read.{transfer_of}
 use Rattle.csmp.specs.declared.Image.{Image}
 use Rattle.decode_image.specs.declared.Transfer.{Transfer}
-use Rattle.protobuf.specs.declared.Number.{Number}
-use Rattle.protobuf.specs.declared.Number.TheVariants.{Given, Absent}
 use Rattle.state.specs.declared.Device.{Device}
 use Rattle.state.specs.declared.Images.{Images}
 use Rattle.transfer.specs.Blocks.{blocks}
@@ -18,13 +16,13 @@ use Rattle.firmware.specs.declared.Answered.{Answered}
 unfoldable pub sized_texts : Transfer → Bool
 sized_texts t = at_most 32 t.hw_id && (at_most 32 t.vendor_hw_id && (at_most 128 t.name && at_most 32 t.version))
 
-unfoldable pub is_given : Number → Bool
-is_given (Given n) = true
-is_given Absent = false
+unfoldable pub is_given : Option ℕ → Bool
+is_given (Some n) = true
+is_given None = false
 
-unfoldable pub number_or0 : Number → ℕ
-number_or0 (Given n) = n
-number_or0 Absent = 0
+unfoldable pub number_or0 : Option ℕ → ℕ
+number_or0 (Some n) = n
+number_or0 None = 0
 
 -- 6: hash, size or block size absent, hash not 32 bytes, size 0
 unfoldable pub is_whole : Transfer → Bool

@@ -2,124 +2,82 @@
 #![tactic(auto)]
 
 ghost use Rattle.std.specs.Prelude.{◌≡◌};
-ghost use Rattle.opening.specs.Open.{sized_texts, is_whole, is_ours, number_or0, fault_of, opened_by, replaced, opens, transfer_taken};
+ghost use Rattle.firmware.specs.Answer.{answer_of, settled};
+ghost use Rattle.opening.specs.Open.{sized_texts, is_whole, is_ours, fault_of, opened_by, replaced, opens, transfer_taken};
 
 use csmp::Image;
 use decode_image::Transfer;
-use firmware::Answered;
-use protobuf::Number;
+use firmware::Fault;
 use state::{Device, Images};
 
 // Whether every text is within its size.
+#[tactic(auto, unfolding(crate::specs::Open::sized_texts))]
 fn sized_texts(t: Transfer) -> bool
     ensures { result ≡ sized_texts t }
 {
-    let hw_id = t.hw_id;
-    if !csmp::at_most(hw_id, 32) {
-        return false;
-    }
-    let vendor = t.vendor_hw_id;
-    if !csmp::at_most(vendor, 32) {
-        return false;
-    }
-    let name = t.name;
-    if !csmp::at_most(name, 128) {
-        return false;
-    }
-    let version = t.version;
-    csmp::at_most(version, 32)
+    csmp::at_most(t.hw_id, 32)
+        && csmp::at_most(t.vendor_hw_id, 32)
+        && csmp::at_most(t.name, 128)
+        && csmp::at_most(t.version, 32)
 }
 
-// Whether what must be there is there: a hash of 32 bytes, a size that is not 0, a block size.
+// Whether what must be there is there: a hash of 32 bytes, a block size, a size that is not 0.
+#[tactic(auto, unfolding(crate::specs::Open::is_whole, crate::specs::Open::is_given, crate::specs::Open::number_or0))]
 fn is_whole(t: Transfer) -> bool
     ensures { result ≡ is_whole t }
 {
-    let hash = t.hash;
-    if !firmware::is_hash(hash) {
-        return false;
-    }
-    let block_size = t.block_size;
-    let Number::Given(_) = block_size else {
-        return false;
-    };
-    let size = t.size;
-    let Number::Given(n) = size else {
-        return false;
-    };
-    if n == 0 {
-        return false;
-    }
-    sized_texts(t)
+    firmware::is_hash(t.hash)
+        && t.block_size.is_some()
+        && t.size.unwrap_or(0) != 0
+        && sized_texts(t)
 }
 
 // Whether the request is for this device's hardware.
+#[tactic(auto, unfolding(crate::specs::Open::is_ours))]
 fn is_ours(device: Device, v: &[u8], t: Transfer) -> bool
     ensures { result ≡ is_ours device v.now t }
 {
-    let ours = device.hw_id.bytes;
-    let hw_id = t.hw_id;
-    if !csmp::field_is(buffer::front(&ours, device.hw_id.len), v, hw_id, false) {
-        return false;
-    }
-    let vendors = device.vendor_hw_id.bytes;
-    let vendor = t.vendor_hw_id;
-    csmp::field_is(
-        buffer::front(&vendors, device.vendor_hw_id.len),
-        v,
-        vendor,
-        true,
-    )
+    let ours = buffer::front(&device.hw_id.bytes, device.hw_id.len);
+    let vendors = buffer::front(&device.vendor_hw_id.bytes, device.vendor_hw_id.len);
+    csmp::field_is(ours, v, t.hw_id, false) && csmp::field_is(vendors, v, t.vendor_hw_id, true)
 }
 
-// A number, or 0 where there is none: asked only of requests that are whole.
-fn number_or_zero(n: Number) -> u32
-    ensures { result ≡ number_or0 n }
+// The faults of a request that is whole, in the order in which they answer.
+#[tactic(auto, unfolding(crate::specs::Open::fault_of, firmware::specs::Answer::answer_of))]
+fn fault(
+    device: Device,
+    images: Images,
+    v: &[u8],
+    t: Transfer,
+    size: u32,
+    block_size: u32,
+) -> Result<(), Fault>
+    ensures { answer_of result ≡ fault_of device images v.now t size block_size }
 {
-    let Number::Given(x) = n else {
-        return 0;
-    };
-    x
-}
-
-// The answers 7, 1, 8 and 4, in this order; 0 where none applies.
-fn fault(device: Device, images: Images, v: &[u8], t: Transfer, size: u32, block_size: u32) -> u32
-    ensures { result ≡ fault_of device images v.now t size block_size }
-{
-    if block_size == 0 {
-        return firmware::INVALID_BLOCK_SIZE;
-    }
-    if 1024 < block_size {
-        return firmware::INVALID_BLOCK_SIZE;
+    if block_size == 0 || 1024 < block_size {
+        return Err(Fault::InvalidBlockSize);
     }
     if !is_ours(device, v, t) {
-        return firmware::INCOMPATIBLE_HW;
+        return Err(Fault::IncompatibleHw);
     }
     if images.pending.is {
-        return firmware::PENDING_REBOOT;
+        return Err(Fault::PendingReboot);
     }
-    if device.image_len < size {
-        return firmware::FILE_SIZE_TOO_BIG;
+    if device.image_len < size || 1024 < transfer::block_count(size, block_size) {
+        return Err(Fault::FileSizeTooBig);
     }
-    if 1024 < transfer::block_count(size, block_size) {
-        return firmware::FILE_SIZE_TOO_BIG;
-    }
-    firmware::OK
+    Ok(())
 }
 
 // The image that a request opens: an empty bitmap, no block held.
+#[tactic(auto, unfolding(crate::specs::Open::opened_by))]
 fn opened(v: &[u8], t: Transfer, size: u32, block_size: u32) -> Image
     ensures { result ≡ opened_by v.now t size block_size }
 {
-    let file_hash = t.hash;
-    let file_name = t.name;
-    let file_version = t.version;
-    let hash = firmware::hash_at(v, file_hash);
-    let name = firmware::name_at(v, file_name);
-    let version = firmware::version_at(v, file_version);
     Image {
-        hash,
-        name,
-        version,
+        hash: firmware::hash_at(v, t.hash),
+        name: firmware::name_at(v, t.name),
+        version: firmware::version_at(v, t.version),
         size,
         block_size,
         bitmap: [0; 128],
@@ -127,47 +85,38 @@ fn opened(v: &[u8], t: Transfer, size: u32, block_size: u32) -> Image
     }
 }
 
-// Another image takes the place of the open one.
-fn replace(images: Images, image: Image) -> Answered
-    ensures { result ≡ replaced images image }
-{
-    let mut next = images;
-    next.open = true;
-    next.image = image;
-    firmware::keep(next, firmware::OK)
-}
-
 // The same hash open: nothing changes, and the sizes must agree. Otherwise the image is opened.
-fn open_or_keep(images: Images, image: Image) -> Answered
-    ensures { result ≡ opens images image }
+#[tactic(auto, unfolding(crate::specs::Open::opens, crate::specs::Open::replaced, firmware::specs::Answer::settled, firmware::specs::Answer::answer_of))]
+fn open_or_keep(images: Images, image: Image) -> Result<Images, Fault>
+    ensures { settled images result ≡ opens images image }
 {
-    let hash = image.hash;
-    if !firmware::is_open(images, hash) {
-        return replace(images, image);
+    if !firmware::is_open(images, image.hash) {
+        let mut next = images;
+        next.open = true;
+        next.image = image;
+        return Ok(next);
     }
-    if images.image.size != image.size {
-        return firmware::keep(images, firmware::INVALID_REQ);
+    if images.image.size != image.size || images.image.block_size != image.block_size {
+        return Err(Fault::InvalidReq);
     }
-    if images.image.block_size != image.block_size {
-        return firmware::keep(images, firmware::INVALID_REQ);
-    }
-    firmware::keep(images, firmware::OK)
+    Ok(images)
 }
 
 // What a TransferRequest does, by what was read of it.
-pub fn answer_transfer(device: Device, images: Images, v: &[u8], t: Transfer) -> Answered
-    ensures { result ≡ transfer_taken device images v.now t }
+#[tactic(auto, unfolding(crate::specs::Open::transfer_taken, crate::specs::Open::open_if, crate::specs::Open::number_or0, firmware::specs::Answer::settled, firmware::specs::Answer::answer_of))]
+pub fn answer_transfer(
+    device: Device,
+    images: Images,
+    v: &[u8],
+    t: Transfer,
+) -> Result<Images, Fault>
+    ensures { settled images result ≡ transfer_taken device images v.now t }
 {
     if !is_whole(t) {
-        return firmware::keep(images, firmware::INVALID_REQ);
+        return Err(Fault::InvalidReq);
     }
-    let given_size = t.size;
-    let given_block = t.block_size;
-    let size = number_or_zero(given_size);
-    let block_size = number_or_zero(given_block);
-    let answer = fault(device, images, v, t, size, block_size);
-    if answer != 0 {
-        return firmware::keep(images, answer);
-    }
+    let size = t.size.unwrap_or(0);
+    let block_size = t.block_size.unwrap_or(0);
+    fault(device, images, v, t, size, block_size)?;
     open_or_keep(images, opened(v, t, size, block_size))
 }

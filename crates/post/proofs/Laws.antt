@@ -1,4 +1,5 @@
 -- Laws of judging a payload, one step each.
+use Rattle.std.specs.Prelude.{None, Some}
 use Prim.Native.Nat.{ℕ, suc, ◌+◌, ◌-◌, ◌≤◌, ◌<◌}
 use mathlib.Core.Path.{◌≡◌, refl, ◌∙◌}
 use mathlib.Core.List.{List, [], ◌∷◌, map}
@@ -12,13 +13,11 @@ use lib.ListN.{length, take, drop, get_or, drop_of_length-le}
 use Rattle.decode.specs.Read.{group_of}
 use Rattle.decode_image.specs.Read.{block_of}
 use Rattle.decode_image.specs.declared.Block.{Block}
-use Rattle.protobuf.specs.declared.Number.TheVariants.{Given, Absent}
 use Rattle.schedule.specs.declared.Point.{Point}
 use Rattle.state.specs.Groups.{no_pair, held_pairs}
 use Rattle.state.specs.declared.Groups.{Groups}
 use Rattle.tlv.specs.Record.{valued, records, readable, record_at, records_from, padded_among}
 use Rattle.tlv.specs.declared.Record.{Record}
-use Rattle.tlv.specs.declared.Taken.TheVariants.{Record as Whole, Unreadable}
 use Rattle.tlv.proofs.Laws.{records-end, records-more, records-unreadable}
 use Rattle.buffer.specs.Listed.{listed}
 use Rattle.buffer.proofs.Tests.{head}
@@ -96,15 +95,15 @@ module _ (k : ℕ) (v : List ℕ) (g : Groups) where
   match-other h = rw (ne_eqb k 57 h)
 
   module _ (h : k ≡ 57) where
-    pub match-no-kind : (group_of v).kind ≡ Absent → is_match k v g ≡ false
+    pub match-no-kind : (group_of v).kind ≡ None → is_match k v g ≡ false
     unfolding is_match match_of
     match-no-kind a = rw (eq-eqb k 57 h, a)
 
-    pub match-no-id : (kind : ℕ) → (group_of v).kind ≡ Given kind → (group_of v).id ≡ Absent → is_match k v g ≡ false
+    pub match-no-id : (kind : ℕ) → (group_of v).kind ≡ Some kind → (group_of v).id ≡ None → is_match k v g ≡ false
     unfolding is_match match_of
     match-no-id kind a b = rw (eq-eqb k 57 h, a, b)
 
-    pub match-pair : (kind id : ℕ) → (group_of v).kind ≡ Given kind → (group_of v).id ≡ Given id → is_match k v g ≡ has_pair g kind id
+    pub match-pair : (kind id : ℕ) → (group_of v).kind ≡ Some kind → (group_of v).id ≡ Some id → is_match k v g ≡ has_pair g kind id
     unfolding is_match match_of
     match-pair kind id a b = rw (eq-eqb k 57 h, a, b)
 
@@ -131,15 +130,15 @@ module _ (g : Groups) (t : Point) where
       unfolding looked_from seen_of
       looked-end h = rw (records-end p at h)
 
-      pub looked-unreadable : at < length p → record_at p at ≡ Unreadable → looked_from p at seen ≡ sealed false seen
+      pub looked-unreadable : at < length p → record_at p at ≡ None → looked_from p at seen ≡ sealed false seen
       unfolding looked_from seen_of
       looked-unreadable h e = rw (records-unreadable p at h e)
 
-      pub looked-next : (r : Record) (n : Seen) → record_at p at ≡ Whole r → n ≡ noted g t seen r.kind (valued p r).value → looked_from p at seen ≡ looked_from p r.end n
+      pub looked-next : (r : Record) (n : Seen) → record_at p at ≡ Some r → n ≡ noted g t seen r.kind (valued p r).value → looked_from p at seen ≡ looked_from p r.end n
       unfolding looked_from seen_of
       looked-next r n e h = rw (records-more p at r e, h)
 
-      pub looked-block : (r : Record) (n : Seen) → record_at p at ≡ Whole r → r.kind ≡ 67 → n ≡ noted g t seen 67 (valued p r).value → looked_from p at seen ≡ looked_from p r.end n
+      pub looked-block : (r : Record) (n : Seen) → record_at p at ≡ Some r → r.kind ≡ 67 → n ≡ noted g t seen 67 (valued p r).value → looked_from p at seen ≡ looked_from p r.end n
       looked-block r n e k h = looked-next r n e (rw k h)
 
     -- what the walk leaves

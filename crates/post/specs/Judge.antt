@@ -1,5 +1,5 @@
 -- Steps e to i, document 01, "Requests, in this order"; padding, document 02, Q-8.
-use Rattle.std.specs.Prelude.{ℕ, ◌+◌, ◌-◌, ◌≡◌, List, [], ◌∷◌, Bool, true, false, not, ◌&&◌, ◌||◌, length, take, drop, eqb, leb}
+use Rattle.std.specs.Prelude.{ℕ, ◌+◌, ◌-◌, ◌≡◌, List, [], ◌∷◌, Bool, true, false, not, ◌&&◌, ◌||◌, Result, Ok, Err, length, take, drop, eqb, leb}
 use Rattle.buffer.specs.Pick.{pick}
 use Rattle.decode_image.specs.Read.{block_of}
 use Rattle.schedule.specs.declared.Point.{Point}
@@ -8,8 +8,6 @@ use Rattle.tlv.specs.Record.{Tlv, records, readable, padded_among}
 use Rattle.post.specs.Value.{is_readable, is_padded, is_expired, is_match, is_forbidden}
 use Rattle.post.specs.declared.Looked.{Looked}
 use Rattle.post.specs.declared.Seen.{Seen}
-use Rattle.post.specs.declared.Judgement.{Judgement}
-use Rattle.post.specs.declared.Judgement.TheVariants.{Error, Run}
 
 -- the records of a payload, one by one
 unfoldable pub noted : Groups → Point → Seen → ℕ → List ℕ → Seen
@@ -63,16 +61,20 @@ pub record LookedBy (g : Groups) (time : Point) (p : List ℕ) (r : Looked) : Ty
 unfoldable pub badly_signed : Bool → ℕ → Bool → Bool
 badly_signed signed verdict required = pick signed (pick (eqb verdict 2) true (pick (eqb verdict 1) false required)) required
 
+-- the code of an error to answer, or that the records may run
+abbrev pub Judgement : Type 0
+Judgement = Result (Unit {0}) ℕ
+
 -- e. 4.00; f. and g. 4.01; h. records 57 present and none equal to a held group: 4.03; i. 4.03; j. the rest run
 unfoldable pub judged : Seen → ℕ → Bool → Judgement
 judged s verdict required =
     pick (s.readable && (not (eqb s.records 0) && leb s.records 24))
-    (pick (badly_signed s.signed verdict required) (Error 129)
-    (pick s.expired (Error 129)
-    (pick (s.grouped && not s.matched) (Error 131)
-    (pick s.forbidden (Error 131) Run))))
-    (Error 128)
+    (pick (badly_signed s.signed verdict required) (Err 129)
+    (pick s.expired (Err 129)
+    (pick (s.grouped && not s.matched) (Err 131)
+    (pick s.forbidden (Err 131) (Ok tt)))))
+    (Err 128)
 
 -- document 02, Q-8: where padding is refused, 4.00 at step e
 unfoldable pub judged_as : Bool → Bool → Seen → ℕ → Bool → Judgement
-judged_as refuse padded s verdict required = pick (refuse && padded) (Error 128) (judged s verdict required)
+judged_as refuse padded s verdict required = pick (refuse && padded) (Err 128) (judged s verdict required)

@@ -1,16 +1,12 @@
 -- What one record of a posted payload says to steps e to i, document 01, "Requests, in this order"; padding, document 02, Q-8; text, Q-5.
-use Rattle.std.specs.Prelude.{ℕ, List, [], ◌∷◌, Bool, true, false, ◌&&◌, ◌||◌, eqb, leb, ltb}
+use Rattle.std.specs.Prelude.{ℕ, List, [], ◌∷◌, Bool, true, false, ◌&&◌, ◌||◌, eqb, leb, ltb, None, Option, Some}
 use Rattle.buffer.specs.Listed.{listed}
 use Rattle.buffer.specs.Pick.{pick}
 use Rattle.decode.specs.Read.{redirect_of, group_of, validity_of, signature_of}
 use Rattle.decode_image.specs.Read.{transfer_of, block_of, load_of, hash_of}
 use Rattle.message.specs.Read.{unpadded}
 use Rattle.message.specs.declared.Reading.{Reading}
-use Rattle.protobuf.specs.declared.Number.{Number}
-use Rattle.protobuf.specs.declared.Number.TheVariants.{Given, Absent}
 use Rattle.schedule.specs.declared.Point.{Point}
-use Rattle.schedule.specs.declared.Moment.{Moment}
-use Rattle.schedule.specs.declared.Moment.TheVariants.{At, Absent as Open}
 use Rattle.state.specs.Groups.{held_pairs}
 use Rattle.state.specs.declared.Groups.{Groups}
 use Rattle.state.specs.declared.Pair.{Pair}
@@ -37,13 +33,13 @@ abbrev pub is_padded : ℕ → List ℕ → Bool
 is_padded k v = (reading_at k v).padded
 
 -- g. now outside the bounds of a record 76; an absent bound is open
-unfoldable pub is_early : Moment → Point → Bool
-is_early (At t) time = ltb time.0 t.0
-is_early Open time = false
+unfoldable pub is_early : Option Point → Point → Bool
+is_early (Some t) time = ltb time.0 t.0
+is_early None time = false
 
-unfoldable pub is_late : Moment → Point → Bool
-is_late (At t) time = ltb t.0 time.0
-is_late Open time = false
+unfoldable pub is_late : Option Point → Point → Bool
+is_late (Some t) time = ltb t.0 time.0
+is_late None time = false
 
 unfoldable pub is_expired : ℕ → List ℕ → Point → Bool
 is_expired k v time = eqb k 76 && (is_early (validity_of v).not_before time || is_late (validity_of v).not_after time)
@@ -56,10 +52,10 @@ any_pair (p ∷ ps) kind id = (eqb p.kind kind && eqb p.id id) || any_pair ps ki
 unfoldable pub has_pair : Groups → ℕ → ℕ → Bool
 has_pair g kind id = any_pair (held_pairs g) kind id
 
-unfoldable pub match_of : Groups → Number → Number → Bool
-match_of g (Given kind) (Given id) = has_pair g kind id
-match_of g (Given kind) Absent = false
-match_of g Absent id = false
+unfoldable pub match_of : Groups → Option ℕ → Option ℕ → Bool
+match_of g (Some kind) (Some id) = has_pair g kind id
+match_of g (Some kind) None = false
+match_of g None id = false
 
 unfoldable pub is_match : ℕ → List ℕ → Groups → Bool
 is_match k v g = eqb k 57 && match_of g (group_of v).kind (group_of v).id

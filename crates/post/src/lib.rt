@@ -11,7 +11,6 @@ ghost use Rattle.post.specs.Value.{is_readable};
 use decode_image::Block;
 use schedule::Point;
 use state::Groups;
-use tlv::Taken;
 pub use value::is_expired;
 
 // What a walk over a payload has seen: how many records, whether their values can be read, whether one is a
@@ -26,13 +25,6 @@ pub struct Seen {
     pub grouped: bool,
     pub matched: bool,
     pub forbidden: bool,
-}
-
-// An error to answer, or that the records may run.
-#[derive(Clone, Copy)]
-pub enum Judgement {
-    Error(u8),
-    Run,
 }
 
 // What a walk leaves: what it saw, whether a varint that it read is padded, and of the ImageBlock that it read last where its value stands and what
@@ -130,7 +122,7 @@ pub fn look(payload: &[u8], groups: Groups, time: Point) -> Looked
     }
     let mut at = 0;
     while at < payload.len() {
-        let Taken::Record(r) = tlv::take_record(payload, at) else {
+        let Some(r) = tlv::take_record(payload, at) else {
             return finish(seen, padded, false, from, to, block);
         };
         let start = r.start;
@@ -168,32 +160,32 @@ pub fn badly_signed(signed: bool, verdict: u8, required: bool) -> bool
     required
 }
 
-// Steps e to i, in this order.
-fn judge_seen(seen: Seen, verdict: u8, required: bool) -> Judgement
+// Steps e to i, in this order: the code of an error to answer, or that the records may run.
+fn judge_seen(seen: Seen, verdict: u8, required: bool) -> Result<(), u8>
     ensures { result ≡ judged seen verdict required }
 {
     if !seen.readable {
-        return Judgement::Error(coap::BAD_REQUEST);
+        return Err(coap::BAD_REQUEST);
     }
     if seen.records == 0 {
-        return Judgement::Error(coap::BAD_REQUEST);
+        return Err(coap::BAD_REQUEST);
     }
     if 24 < seen.records {
-        return Judgement::Error(coap::BAD_REQUEST);
+        return Err(coap::BAD_REQUEST);
     }
     if badly_signed(seen.signed, verdict, required) {
-        return Judgement::Error(coap::UNAUTHORIZED);
+        return Err(coap::UNAUTHORIZED);
     }
     if seen.expired {
-        return Judgement::Error(coap::UNAUTHORIZED);
+        return Err(coap::UNAUTHORIZED);
     }
     if value::unmatched(seen.grouped, seen.matched) {
-        return Judgement::Error(coap::FORBIDDEN);
+        return Err(coap::FORBIDDEN);
     }
     if seen.forbidden {
-        return Judgement::Error(coap::FORBIDDEN);
+        return Err(coap::FORBIDDEN);
     }
-    Judgement::Run
+    Ok(())
 }
 
 // The same; where padding is refused, step e refuses it.
@@ -203,11 +195,11 @@ pub fn judge(
     verdict: u8,
     required: bool,
     refuse_padding: bool,
-) -> Judgement
+) -> Result<(), u8>
     ensures { result ≡ judged_as refuse_padding padded seen verdict required }
 {
     if buffer::both(refuse_padding, padded) {
-        return Judgement::Error(coap::BAD_REQUEST);
+        return Err(coap::BAD_REQUEST);
     }
     judge_seen(seen, verdict, required)
 }

@@ -3,8 +3,7 @@ ghost use Rattle.std.specs.Prelude.{◌≡◌, ◌&&◌, not};
 ghost use Rattle.post.specs.Value.{reading_at, is_early, is_late, is_expired, has_pair, is_match, is_forbidden};
 
 use message::Reading;
-use protobuf::Number;
-use schedule::{Moment, Point};
+use schedule::Point;
 use state::Groups;
 
 // There are GroupMatches, and none names a held group.
@@ -32,19 +31,19 @@ pub fn read(kind: u64, v: &[u8]) -> Reading
     }
 }
 
-fn is_early(bound: Moment, time: Point) -> bool
+fn is_early(bound: Option<Point>, time: Point) -> bool
     ensures { result ≡ is_early bound time }
 {
-    let Moment::At(t) = bound else {
+    let Some(t) = bound else {
         return false;
     };
     schedule::before(time, t)
 }
 
-fn is_late(bound: Moment, time: Point) -> bool
+fn is_late(bound: Option<Point>, time: Point) -> bool
     ensures { result ≡ is_late bound time }
 {
-    let Moment::At(t) = bound else {
+    let Some(t) = bound else {
         return false;
     };
     schedule::before(t, time)
@@ -67,19 +66,15 @@ pub fn is_expired(kind: u64, v: &[u8], time: Point) -> bool
 fn has_pair(groups: Groups, kind: u32, id: u32) -> bool
     ensures { result ≡ has_pair groups kind id }
 {
-    let list = groups.list;
-    let mut i = 0;
-    while i < 8 {
+    for (i, pair) in groups.list.iter().enumerate() {
         if groups.count <= i {
             return false;
         }
-        let pair = list[i];
         if pair.kind == kind {
             if pair.id == id {
                 return true;
             }
         }
-        i += 1;
     }
     false
 }
@@ -94,10 +89,10 @@ pub fn is_match(kind: u64, v: &[u8], groups: Groups) -> bool
     let m = decode::read_group(v);
     let given_kind = m.kind;
     let given_id = m.id;
-    let Number::Given(k) = given_kind else {
+    let Some(k) = given_kind else {
         return false;
     };
-    let Number::Given(id) = given_id else {
+    let Some(id) = given_id else {
         return false;
     };
     has_pair(groups, k, id)

@@ -1,4 +1,5 @@
 -- Laws of fields: what a field holds, what its tag is followed by, where it lies, and the walk over the fields.
+use Rattle.std.specs.Prelude.{None, Option, Some}
 use Prim.Native.Nat.{ℕ, ◌/◌, ◌%◌, ◌^◌, ◌≤◌, ◌<◌}
 use mathlib.Core.Path.{◌≡◌, refl, ap, subst}
 use mathlib.Core.List.{List}
@@ -9,26 +10,20 @@ use lib.Dec.{eqb, ltb, leb}
 use lib.ListN.{length}
 use Rattle.buffer.specs.Stretch.{stretch}
 use Rattle.buffer.specs.Walk.{item, ended, joined}
-use Rattle.buffer.specs.declared.Stretch.{Stretch}
-use Rattle.buffer.specs.declared.Stretch.TheVariants.{To, Outside}
 use Rattle.buffer.proofs.Stretches.{stretch-inside}
 use Rattle.buffer.proofs.Walks.{Advances, walk_end, walk_more, walk-unreadable}
-use Rattle.varint.specs.Varint.{varint_at, delimited_at}
-use Rattle.varint.specs.declared.Delimited.{Delimited}
-use Rattle.varint.specs.declared.Delimited.TheVariants.{At, Unreadable as Cut}
-use Rattle.varint.specs.declared.Varint.{Varint}
-use Rattle.varint.specs.declared.Varint.TheVariants.{Number, Unreadable as Unspelt}
+use Rattle.varint.specs.Varint.{varint_at, delimited_at, stands}
 use Rattle.varint.proofs.Stretched.{delimited-inside}
 use Rattle.varint.proofs.Theorems.{inside}
 use Rattle.protobuf.specs.Field.{numbered, held, spanned, content_at, of_tag, field_at, stepped, field_step, fields_from}
 use Rattle.protobuf.specs.Each.{Each}
 use Rattle.protobuf.specs.declared.Field.{Field}
-use Rattle.protobuf.specs.declared.Step.{Step}
-use Rattle.protobuf.specs.declared.Step.TheVariants.{Field as Whole, Unreadable}
 use Rattle.protobuf.proofs.EachLaws.{either, each-walked}
+use Rattle.varint.specs.declared.Delimited.{Delimited}
+use Rattle.varint.specs.declared.Varint.{Varint}
 
 -- what a field holds, by its wire type
-module _ (s : List ℕ) (n w : ℕ) (p : Bool) (at : ℕ) {r : Step} where
+module _ (s : List ℕ) (n w : ℕ) (p : Bool) (at : ℕ) {r : Option Field} where
   pub content-number : w ≡ 0 → r ≡ numbered n p (varint_at s at) → r ≡ content_at s n w p at
   unfolding content_at
   content-number h e = rw (eq-eqb w 0 h) e
@@ -45,22 +40,22 @@ module _ (s : List ℕ) (n w : ℕ) (p : Bool) (at : ℕ) {r : Step} where
   unfolding content_at
   content-four a b d h e = rw (ne_eqb w 0 a, ne_eqb w 1 b, ne_eqb w 2 d, eq-eqb w 5 h) e
 
-  pub content-none : (w ≡ 0 → ⊥) → (w ≡ 1 → ⊥) → (w ≡ 2 → ⊥) → (w ≡ 5 → ⊥) → r ≡ Unreadable → r ≡ content_at s n w p at
+  pub content-none : (w ≡ 0 → ⊥) → (w ≡ 1 → ⊥) → (w ≡ 2 → ⊥) → (w ≡ 5 → ⊥) → r ≡ None → r ≡ content_at s n w p at
   unfolding content_at
   content-none a b d h e = rw (ne_eqb w 0 a, ne_eqb w 1 b, ne_eqb w 2 d, ne_eqb w 5 h) e
 
 -- what a tag is followed by
 module _ (s : List ℕ) (at : ℕ) where
-  pub field-untagged : varint_at s at ≡ Unspelt → field_at s at ≡ Unreadable
+  pub field-untagged : varint_at s at ≡ None → field_at s at ≡ None
   unfolding field_at of_tag
   field-untagged e = rw e
 
-  module _ (tag mid : ℕ) (p : Bool) (e : varint_at s at ≡ Number tag mid p) where
-    pub field-large : 2 ^ 32 ≤ tag → field_at s at ≡ Unreadable
+  module _ (tag mid : ℕ) (p : Bool) (e : varint_at s at ≡ stands tag mid p) where
+    pub field-large : 2 ^ 32 ≤ tag → field_at s at ≡ None
     unfolding field_at of_tag
     field-large h = rw (e, le-leb (2 ^ 32) tag h)
 
-    pub field-zero : tag < 2 ^ 32 → tag < 8 → field_at s at ≡ Unreadable
+    pub field-zero : tag < 2 ^ 32 → tag < 8 → field_at s at ≡ None
     unfolding field_at of_tag
     field-zero h k = rw (e, lt-leb (2 ^ 32) tag h, lt-ltb tag 8 k)
 
@@ -74,25 +69,25 @@ Follows s from f = (from < f.end) × (f.start ≤ f.end) × (f.end ≤ length s)
 
 -- so it is with one that was read there
 module _ (s : List ℕ) (at : ℕ) where
-  abbrev Within : Step → Type 0
-  Within (Whole f) = Follows s at f
-  Within Unreadable = Unit {0}
+  abbrev Within : Option Field → Type 0
+  Within (Some f) = Follows s at f
+  Within None = Unit {0}
 
   module _ (mid : ℕ) (h : at < mid) (p : Bool) where
-    numbered_within : (n : ℕ) (r : Varint) → varint_at s mid ≡ r → Within (numbered n p r)
+    numbered_within : (n : ℕ) (r : Option Varint) → varint_at s mid ≡ r → Within (numbered n p r)
     unfolding numbered
-    numbered_within n (Number v next o) e = let i = inside s mid v next o e in omega arith
-    numbered_within n Unspelt e = tt
+    numbered_within n (Some x) e = let i = inside s mid x.value x.next x.padded e in omega arith
+    numbered_within n None e = tt
 
-    spanned-within : (n w k : ℕ) (r : Stretch) → stretch (length s) mid k ≡ r → Within (spanned n w p mid r)
+    spanned-within : (n w k : ℕ) (r : Option ℕ) → stretch (length s) mid k ≡ r → Within (spanned n w p mid r)
     unfolding spanned
-    spanned-within n w k (To end) e = let b = stretch-inside (length s) mid k end e in omega arith
-    spanned-within n w k Outside e = tt
+    spanned-within n w k (Some end) e = let b = stretch-inside (length s) mid k end e in omega arith
+    spanned-within n w k None e = tt
 
-    held-within : (n : ℕ) (r : Delimited) → delimited_at s mid ≡ r → Within (held n p r)
+    held-within : (n : ℕ) (r : Option Delimited) → delimited_at s mid ≡ r → Within (held n p r)
     unfolding held
-    held-within n (At start end o) e = let b = delimited-inside s mid start end o e in omega arith
-    held-within n Cut e = tt
+    held-within n (Some x) e = let b = delimited-inside s mid x.start x.end x.padded e in omega arith
+    held-within n None e = tt
 
     content-within : (n w : ℕ) → Within (content_at s n w p mid)
     unfolding content_at
@@ -102,25 +97,25 @@ module _ (s : List ℕ) (at : ℕ) where
         (either Within (eqb w 2) _ _ (held-within n (delimited_at s mid) refl)
         (either Within (eqb w 5) _ _ (spanned-within n w 4 (stretch (length s) mid 4) refl) tt)))
 
-  tagged-within : (r : Varint) → varint_at s at ≡ r → Within (of_tag s r)
+  tagged-within : (r : Option Varint) → varint_at s at ≡ r → Within (of_tag s r)
   unfolding of_tag
-  tagged-within (Number tag mid p) e =
-      either Within (leb (2 ^ 32) tag) _ _ tt
-      (either Within (ltb tag 8) _ _ tt (content-within mid (inside s at tag mid p e).starts p (tag / 8) (tag % 8)))
-  tagged-within Unspelt e = tt
+  tagged-within (Some x) e =
+      either Within (leb (2 ^ 32) x.value) _ _ tt
+      (either Within (ltb x.value 8) _ _ tt (content-within x.next (inside s at x.value x.next x.padded e).starts x.padded (x.value / 8) (x.value % 8)))
+  tagged-within None e = tt
 
-  pub field-within : (f : Field) → field_at s at ≡ Whole f → Follows s at f
+  pub field-within : (f : Field) → field_at s at ≡ Some f → Follows s at f
   unfolding field_at
   field-within f e = subst Within e (tagged-within (varint_at s at) refl)
 
   -- a step of the walk is a field, and the next one begins where it ends
-  step_field : (f : Field) (next : ℕ) → field_step s at ≡ item f next → (field_at s at ≡ Whole f) × (f.end ≡ next)
+  step_field : (f : Field) (next : ℕ) → field_step s at ≡ item f next → (field_at s at ≡ Some f) × (f.end ≡ next)
   unfolding field_step
   step_field f next = go (field_at s at)
     where
-      go : (r : Step) → stepped r ≡ item f next → (r ≡ Whole f) × (f.end ≡ next)
-      go (Whole g) e = (cc, cc)
-      go Unreadable e = let z : ◌≡◌ {A = ℕ} 0 1 = cc in absurd (omega arith)
+      go : (r : Option Field) → stepped r ≡ item f next → (r ≡ Some f) × (f.end ≡ next)
+      go (Some g) e = (cc, cc)
+      go None e = let z : ◌≡◌ {A = ℕ} 0 1 = cc in absurd (omega arith)
 
 -- so the walk over the fields goes on
 pub field-advances : Advances field_step
@@ -135,11 +130,11 @@ module _ (s : List ℕ) (at : ℕ) where
   unfolding fields_from
   fields-end h = walk_end field_step s at h
 
-  pub fields-more : (f : Field) → at < length s → field_at s at ≡ Whole f → fields_from s at ≡ joined f (fields_from s f.end)
+  pub fields-more : (f : Field) → at < length s → field_at s at ≡ Some f → fields_from s at ≡ joined f (fields_from s f.end)
   unfolding fields_from field_step
   fields-more f h e = walk_more field_step field-advances s at f.end f h (ap stepped e)
 
-  pub fields-unreadable : at < length s → field_at s at ≡ Unreadable → fields_from s at ≡ ended false
+  pub fields-unreadable : at < length s → field_at s at ≡ None → fields_from s at ≡ ended false
   unfolding fields_from field_step
   fields-unreadable h e = walk-unreadable field_step s at h (ap stepped e)
 

@@ -1,9 +1,9 @@
 -- At most how many bytes fields take, and values that are put together of them at the front of a buffer.
+use Rattle.std.specs.Prelude.{None, Option, Some}
 use Prim.Native.Nat.{ℕ, ◌+◌, ◌*◌, ◌^◌, ◌≤◌, ◌<◌}
 use mathlib.Core.Path.{◌≡◌}
 use mathlib.Core.List.{List, [], ◌∷◌}
 use mathlib.Core.Bool.{Bool, true, false}
-use mathlib.Core.Option.{Option, none, some}
 use native.Mathlib.Omega.{arith}
 use lib.ListN.{length, take, length-append, length-take}
 use Rattle.buffer.proofs.Puts.{all, Chain, Whole, chain-whole}
@@ -22,8 +22,8 @@ bytes_most n k bs h = omega (arith, delimited-length (n * 8 + 2) bs, varint-leng
 
 pub number-if-most : (n : ℕ) (v : Option ℕ) → length (if_any (number_field n) v) ≤ 20
 unfolding if_any
-number-if-most n none = omega arith
-number-if-most n (some v) = number-most n v
+number-if-most n None = omega arith
+number-if-most n (Some v) = number-most n v
 
 pub bytes-if-most : (n k : ℕ) (given : Bool) (bs : List ℕ) → length bs ≤ k → length (if_any (bytes_field n) (if_given given bs)) ≤ 20 + k
 unfolding if_any

@@ -1,26 +1,16 @@
 -- What is there or not, as a value: document 01, "Records and fields", presence.
-use Rattle.std.specs.Prelude.{ℕ, ◌-◌, List, Bool, take, drop}
-use Rattle.std.proofs.Math.Option.{Option, none, some}
+use Rattle.std.specs.Prelude.{ℕ, ◌-◌, List, Bool, take, drop, None, Option, Some}
 use Rattle.buffer.specs.Pick.{pick}
-use Rattle.protobuf.specs.declared.Number.{Number}
-use Rattle.protobuf.specs.declared.Number.TheVariants.{Given, Absent as NoNumber}
-use Rattle.protobuf.specs.declared.Flag.{Flag}
-use Rattle.protobuf.specs.declared.Flag.TheVariants.{Given as Told, Absent as NoFlag}
-use Rattle.protobuf.specs.declared.Bytes.{Bytes}
-use Rattle.protobuf.specs.declared.Bytes.TheVariants.{At, Absent as NoBytes}
+use Rattle.protobuf.specs.declared.Span.{Span}
 
 abbrev pub if_given : {A : Type 0} → Bool → A → Option A
-if_given b a = pick b (some a) none
+if_given b a = pick b (Some a) None
 
 -- what counts of a row, as a value that may be missing
-abbrev pub number_given : Number → Option ℕ
-number_given (Given v) = some v
-number_given NoNumber = none
+-- bytes from a start up to an end
+abbrev pub spanning : ℕ → ℕ → Option Span
+spanning start end = Some (record { start = start; end = end })
 
-abbrev pub flag_given : Flag → Option Bool
-flag_given (Told b) = some b
-flag_given NoFlag = none
-
-abbrev pub bytes_given : List ℕ → Bytes → Option (List ℕ)
-bytes_given s (At start stop) = some (take (stop - start) (drop start s))
-bytes_given s NoBytes = none
+abbrev pub bytes_given : List ℕ → Option Span → Option (List ℕ)
+bytes_given s (Some x) = Some (take (x.end - x.start) (drop x.start s))
+bytes_given s None = None

@@ -8,8 +8,6 @@ ghost use Rattle.protobuf.specs.Field.{field_at, content_at, numbered, held, spa
 ghost use Rattle.buffer.specs.Stretch.{stretch};
 ghost use Rattle.varint.specs.Varint.{varint_at, delimited_at};
 
-use buffer::Stretch;
-use varint::{Delimited, Varint};
 pub use write::{put_bytes, put_bytes_if, put_given, put_head, put_number};
 
 // A field: its number and wire type, its value where it is a varint, and its bytes from `start` up to `end`,
@@ -24,108 +22,80 @@ pub struct Field {
     pub padded: bool,
 }
 
-// What stands at a position of a message.
+// Where bytes of a value stand, from `start` up to `end`.
 #[derive(Clone, Copy)]
-pub enum Step {
-    Field(Field),
-    Unreadable,
-}
-
-// A number that may be missing: absent is not 0.
-#[derive(Clone, Copy)]
-pub enum Number {
-    Given(u32),
-    Absent,
-}
-
-#[derive(Clone, Copy)]
-pub enum Flag {
-    Given(bool),
-    Absent,
-}
-
-// Bytes that may be missing: their start and their end.
-#[derive(Clone, Copy)]
-pub enum Bytes {
-    At(usize, usize),
-    Absent,
+pub struct Span {
+    pub start: usize,
+    pub end: usize,
 }
 
 // The field at `at`: a tag below 2^32 whose number is not 0, then what its wire type says.
-pub fn field_at(s: &[u8], at: usize) -> Step
+pub fn field_at(s: &[u8], at: usize) -> Option<Field>
     ensures { result ≡ field_at s.now at }
 {
-    let Varint::Number(tag, mid, padded) = varint::read(s, at) else {
-        return Step::Unreadable;
-    };
-    if 4294967296 <= tag {
-        return Step::Unreadable;
+    let tag = varint::read(s, at)?;
+    if 4294967296 <= tag.value {
+        return None;
     }
-    if tag < 8 {
-        return Step::Unreadable;
+    if tag.value < 8 {
+        return None;
     }
-    content_at(s, (tag / 8) as u32, (tag % 8) as u8, padded, mid)
+    content_at(
+        s,
+        (tag.value / 8) as u32,
+        (tag.value % 8) as u8,
+        tag.padded,
+        tag.next,
+    )
 }
 
 // What a field of that number and wire type holds, from `at` on, behind a tag that was padded or not.
-fn content_at(s: &[u8], number: u32, wire: u8, padded: bool, at: usize) -> Step
+fn content_at(s: &[u8], number: u32, wire: u8, padded: bool, at: usize) -> Option<Field>
     ensures { result ≡ content_at s.now number wire padded at }
 {
-    if wire == 0 {
-        return varint_at(s, number, padded, at);
+    match wire {
+        0 => varint_at(s, number, padded, at),
+        1 => span_at(s, number, wire, padded, at, 8),
+        2 => bytes_at(s, number, padded, at),
+        5 => span_at(s, number, wire, padded, at, 4),
+        _ => None,
     }
-    if wire == 1 {
-        return span_at(s, number, wire, padded, at, 8);
-    }
-    if wire == 2 {
-        return bytes_at(s, number, padded, at);
-    }
-    if wire == 5 {
-        return span_at(s, number, wire, padded, at, 4);
-    }
-    Step::Unreadable
 }
 
-fn varint_at(s: &[u8], number: u32, padded: bool, at: usize) -> Step
+fn varint_at(s: &[u8], number: u32, padded: bool, at: usize) -> Option<Field>
     ensures { result ≡ numbered number padded (varint_at s.now at) }
 {
-    let Varint::Number(value, end, padded_value) = varint::read(s, at) else {
-        return Step::Unreadable;
-    };
-    Step::Field(Field {
+    let held = varint::read(s, at)?;
+    Some(Field {
         number,
         wire: 0,
-        value,
-        start: end,
-        end,
-        padded: buffer::either(padded, padded_value),
+        value: held.value,
+        start: held.next,
+        end: held.next,
+        padded: buffer::either(padded, held.padded),
     })
 }
 
-fn bytes_at(s: &[u8], number: u32, padded: bool, at: usize) -> Step
+fn bytes_at(s: &[u8], number: u32, padded: bool, at: usize) -> Option<Field>
     ensures { result ≡ held number padded (delimited_at s.now at) }
 {
-    let Delimited::At(start, end, padded_len) = varint::read_delimited(s, at) else {
-        return Step::Unreadable;
-    };
-    Step::Field(Field {
+    let held = varint::read_delimited(s, at)?;
+    Some(Field {
         number,
         wire: 2,
         value: 0,
-        start,
-        end,
-        padded: buffer::either(padded, padded_len),
+        start: held.start,
+        end: held.end,
+        padded: buffer::either(padded, held.padded),
     })
 }
 
 // A field of a fixed length.
-fn span_at(s: &[u8], number: u32, wire: u8, padded: bool, start: usize, len: u64) -> Step
+fn span_at(s: &[u8], number: u32, wire: u8, padded: bool, start: usize, len: u64) -> Option<Field>
     ensures { result ≡ spanned number wire padded start (stretch (length s.now) start len) }
 {
-    let Stretch::To(end) = buffer::end_of(s, start, len) else {
-        return Step::Unreadable;
-    };
-    Step::Field(Field {
+    let end = buffer::end_of(s, start, len)?;
+    Some(Field {
         number,
         wire,
         value: 0,

@@ -1,9 +1,7 @@
 // Writing fields: the shortest varints.
 ghost use Rattle.buffer.specs.Put.{Put};
 ghost use Rattle.protobuf.specs.Write.{if_any, number_field, bytes_head, bytes_field};
-ghost use Rattle.protobuf.specs.Given.{if_given, number_given};
-
-use crate::Number;
+ghost use Rattle.protobuf.specs.Given.{if_given};
 
 // Appends a field that holds a number.
 pub fn put_number(out: &mut [u8], at: usize, number: u32, value: u64) -> usize
@@ -13,10 +11,10 @@ pub fn put_number(out: &mut [u8], at: usize, number: u32, value: u64) -> usize
 }
 
 // Appends a field that holds a number, where there is one.
-pub fn put_given(out: &mut [u8], at: usize, number: u32, value: Number) -> usize
-    ensures { Put out.old at (if_any (number_field number) (number_given value)) out.new result }
+pub fn put_given(out: &mut [u8], at: usize, number: u32, value: Option<u32>) -> usize
+    ensures { Put out.old at (if_any (number_field number) value) out.new result }
 {
-    let Number::Given(v) = value else {
+    let Some(v) = value else {
         return buffer::put(out, at, b"");
     };
     put_number(out, at, number, v as u64)

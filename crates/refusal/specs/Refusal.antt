@@ -1,7 +1,23 @@
 -- Refusals of the calls, document 01, "House refusals": checked in number order, as far as a call has that input.
-use Rattle.std.specs.Prelude.{ℕ, List, Bool, eqb, ltb}
+use Rattle.std.specs.Prelude.{ℕ, List, Bool, eqb, ltb, ⊤, Result, Ok, Err}
 use Rattle.buffer.specs.Pick.{pick}
 use Rattle.store.specs.Store.{acceptable}
+use Rattle.refusal.specs.declared.Refusal.{Refusal}
+use Rattle.refusal.specs.declared.Refusal.TheVariants.{Output, ImageLength, Verdict, Store, DatagramLength, NotDue}
+
+-- the number of a refusal: where nothing is due, the caller's
+unfoldable pub number_of : Refusal → ℕ
+number_of Output = 1
+number_of ImageLength = 2
+number_of Verdict = 3
+number_of Store = 4
+number_of DatagramLength = 5
+number_of (NotDue number) = number
+
+-- 0 where nothing is refused
+unfoldable pub outcome_of : Result ⊤ Refusal → ℕ
+outcome_of (Ok _) = 0
+outcome_of (Err refusal) = number_of refusal
 
 -- 1 output shorter than 1,280; 2 image buffer not of the setup length; 3 verdict not 0, 1 or 2; 4 the store; 5 datagram longer than 1,280.
 -- 0 where none applies

@@ -7,7 +7,8 @@ mod wait;
 ghost use Rattle.std.specs.Prelude.{◌≡◌};
 ghost use Rattle.registration.specs.Redirect.{restarted, is_set, followed, url_in, redirected};
 
-use protobuf::{Bytes, Flag};
+use buffer::Text;
+use protobuf::Span;
 pub use round::{take_id, take_round};
 use state::{Device, Registration, Url};
 pub use wait::{backoff, first_wait, rest_of};
@@ -34,10 +35,10 @@ pub fn restart(
 }
 
 // Whether a flag is given and true.
-fn is_set(flag: Flag) -> bool
+fn is_set(flag: Option<bool>) -> bool
     ensures { result ≡ is_set flag }
 {
-    let Flag::Given(b) = flag else {
+    let Some(b) = flag else {
         return false;
     };
     b
@@ -49,7 +50,7 @@ pub fn is_followed(v: &[u8]) -> bool
 {
     let r = decode::read_redirect(v);
     let place = r.url;
-    let Bytes::At(start, end) = place else {
+    let Some(Span { start, end }) = place else {
         return false;
     };
     start != end
@@ -62,12 +63,12 @@ pub fn redirect(device: Device, registration: Registration, v: &[u8]) -> Registr
     let r = decode::read_redirect(v);
     let place = r.url;
     let flag = r.immediate;
-    let Bytes::At(start, end) = place else {
+    let Some(Span { start, end }) = place else {
         return registration;
     };
     if start == end {
         return registration;
     }
-    let url = state::url_of(&v[start..end]);
+    let url = Text::of(&v[start..end]);
     restart(device, registration, url, is_set(flag))
 }

@@ -1,4 +1,5 @@
 -- Laws of the calls that send a datagram of the agent's own.
+use Rattle.std.specs.Prelude.{None, Option, Some}
 use Prim.Native.Nat.{ℕ, ◌≤◌}
 use mathlib.Core.Path.{◌≡◌, refl, sym, ◌∙◌}
 use mathlib.Core.List.{List, [], ◌∷◌}
@@ -21,8 +22,6 @@ use Rattle.registration.specs.Backoff.{backoff_of, rest_of}
 use Rattle.registration.specs.Round.{id_taken, round_taken}
 use Rattle.reply.specs.declared.Answer.{Answer}
 use Rattle.reply.proofs.Laws.{sent-appended, sent-silent}
-use Rattle.schedule.specs.declared.Interval.{Interval}
-use Rattle.schedule.specs.declared.Interval.TheVariants.{Every, Absent}
 use Rattle.schedule.specs.declared.Length.{Length}
 use Rattle.schedule.specs.declared.Point.{Point}
 use Rattle.state.specs.declared.Registration.{Registration}
@@ -140,12 +139,12 @@ module _ (s : State) (out store : List ℕ) (time : Point) (random : ℕ) {n : �
         rounded-sent s random _ (rw (← w) (sending-some s _ n (registration_sent s store time) z (put-filled p f h))) k p (registration-short s store time) g
 
 -- whether a report is due
-module _ (i : Interval) where
-  pub positive-none : i ≡ Absent → false ≡ is_positive i
+module _ (i : Option Length) where
+  pub positive-none : i ≡ None → false ≡ is_positive i
   unfolding is_positive
   positive-none e = rw e
 
-  pub positive-some : (l : Length) → i ≡ Every l → not (eqb l.0 0) ≡ is_positive i
+  pub positive-some : (l : Length) → i ≡ Some l → not (eqb l.0 0) ≡ is_positive i
   unfolding is_positive
   positive-some l e = rw e
 

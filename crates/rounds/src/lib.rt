@@ -9,7 +9,7 @@ ghost use Rattle.rounds.specs.Rounds.{SentAs, Rounded};
 
 use outgoing::Report;
 use reply::Answer;
-use schedule::{Interval, Length, Point};
+use schedule::{Length, Point};
 use state::{Registration, State};
 
 // What a round answers: the wait before the datagram is sent, and the wait behind it.
@@ -67,9 +67,8 @@ fn begin_round(state: State, len: usize, random: u32) -> RoundAnswer
 pub fn round(state: State, out: &mut [u8], store: &[u8], time: Point, random: u32) -> RoundAnswer
     ensures { Rounded state random (round_of state (length out.old) store.now time) out.old result out.new }
 {
-    let refused = refusal::own_refusal(out.len(), store, !state.registration.accepted, 8);
-    if refused != 0 {
-        return no_round(refused, state);
+    if let Err(refusal) = refusal::own_refusal(out.len(), store, !state.registration.accepted, 8) {
+        return no_round(refusal.number(), state);
     }
     let len = outgoing::put_registration(state, store, time, out);
     if len == 0 {
@@ -78,10 +77,10 @@ pub fn round(state: State, out: &mut [u8], store: &[u8], time: Point, random: u3
     begin_round(state, len, random)
 }
 
-fn is_positive(interval: Interval) -> bool
+fn is_positive(interval: Option<Length>) -> bool
     ensures { result ≡ is_positive interval }
 {
-    let Interval::Every(length) = interval else {
+    let Some(length) = interval else {
         return false;
     };
     length.0 != 0
@@ -116,9 +115,8 @@ fn is_reporting(state: State, which: Report) -> bool
 pub fn report(state: State, out: &mut [u8], store: &[u8], time: Point, which: Report) -> Answer
     ensures { SentAs (report_of state (length out.old) store.now time which) out.old result out.new }
 {
-    let refused = refusal::own_refusal(out.len(), store, is_reporting(state, which), 9);
-    if refused != 0 {
-        return reply::silent(refused, state);
+    if let Err(refusal) = refusal::own_refusal(out.len(), store, is_reporting(state, which), 9) {
+        return reply::silent(refusal.number(), state);
     }
     let len = outgoing::put_report(state, store, time, out);
     if len == 0 {

@@ -1,9 +1,9 @@
 -- What `specs/Written.antt` states.
+use Rattle.std.specs.Prelude.{None, Some}
 use Prim.Native.Nat.{ℕ, ◌^◌, ◌≤◌, ◌<◌}
 use mathlib.Core.Path.{◌≡◌, refl, sym, ap, ◌∙◌}
 use mathlib.Core.Bool.{true, false}
 use mathlib.Core.List.{List, [], ◌∷◌, map, append-nil}
-use mathlib.Core.Option.{none, some}
 use native.Mathlib.Nat.{le_of_eq}
 use native.Mathlib.Omega.{arith}
 use borrow.Author.Tests.{le-leb}
@@ -14,7 +14,6 @@ use Rattle.decimal.specs.Ids.{held}
 use Rattle.tables.proofs.Theorems.{round_trip as Fields-back}
 use Rattle.tables.specs.Statements.{Formed, Small, Texts, RoundTripped}
 use Rattle.protobuf.specs.Each.{Each}
-use Rattle.protobuf.specs.Given.{number_given}
 use Rattle.tables.specs.Table.{Table, Values, written, write_by}
 use Rattle.protobuf.specs.Write.{if_any, each, number_field, bytes_field}
 use Rattle.tlv.proofs.Theorems.{round_trip as records-back}
@@ -77,12 +76,12 @@ written_back =
       index = λ i l h. back (omega arith) tlv-index-formed (tt, tt) (decimals-text (take i.count i.list) h, tt) (simp length-append (omega (arith, list-most 1 68 i.count i.list l))) refl;
       session_id = λ s l h. back (omega arith) session-formed (tt, tt) (h, tt) (simp length-append (omega (arith, bytes_most 1 64 (take s.len s.bytes) (take-most s.len 64 s.bytes l)))) refl;
       report = λ i ids a l h. back (omega arith) report-subscribe-formed (a, (tt, (tt, (tt, tt)))) (tt, (decimals-text (held ids) h, (tt, (tt, tt))))
-          (simp length-append (omega (arith, number-if-most 1 (number_given (interval_number i)), list-most 2 32 ids.count ids.list l))) refl;
+          (simp length-append (omega (arith, number-if-most 1 (interval_number i), list-most 2 32 ids.count ids.list l))) refl;
       time = λ p a. back (omega arith) current-time-formed (a, (tt, (tt, tt))) (tt, (tt, (tt, tt))) (simp length-append (omega (arith, number-most 1 p.0))) refl;
       group_info = λ kind id a b. back (omega arith) group-formed (a, (b, tt)) (tt, (tt, tt)) (simp length-append (omega (arith, number-most 1 kind, number-most 2 id))) refl;
       transferred = answered 71 (omega arith);
       loaded = λ h answer t l a b. back (omega arith) load-response-formed (tt, (a, (b, tt))) (tt, (tt, (tt, tt)))
-          (simp length-append (omega (arith, bytes-if-most 1 32 h.given h.bytes (le_of_eq l), number-most 2 answer, number-if-most 3 (number_given (moment_number t))))) refl;
+          (simp length-append (omega (arith, bytes-if-most 1 32 h.given h.bytes (le_of_eq l), number-most 2 answer, number-if-most 3 (moment_number t)))) refl;
       cancelled = answered 73 (omega arith);
       backed_up = answered 74 (omega arith);
       running = λ hash l. back (omega arith) image-info-formed (omega arith) (tt, (tt, (tt, (tt, (tt, (tt, (tt, (tt, (tt, (tt, (tt, (tt, tt))))))))))))
@@ -98,10 +97,10 @@ written_back =
             number-most 5 i.size,
             number-most 6 i.block_size,
             bytes_most 7 128 (take n i.bitmap) (take-most n 128 i.bitmap h.bitmap),
-            number-if-most 10 (number_given (moment_number t)),
+            number-if-most 10 (moment_number t),
           ))) refl;
       backup = λ hash t l a. back (omega arith) image-info-formed (omega arith, (tt, (tt, (tt, (tt, (tt, (tt, (tt, (tt, (a, (tt, (tt, tt)))))))))))) (tt, (tt, (tt, (tt, (tt, (tt, (tt, (tt, (tt, (tt, (tt, (tt, tt))))))))))))
-          (simp length-append (omega (arith, number-most 1 2, bytes_most 2 32 hash (le_of_eq l), number-if-most 10 (number_given (moment_number t))))) refl;
+          (simp length-append (omega (arith, number-most 1 2, bytes_most 2 32 hash (le_of_eq l), number-if-most 10 (moment_number t)))) refl;
       ids = ids-back;
     }
 
@@ -117,14 +116,14 @@ own-readers =
     record {
       session_id = λ s l h.
           let b = written_back.session_id s l h in
-          let v = write_by session (some (take s.len s.bytes), tt) in
+          let v = write_by session (Some (take s.len s.bytes), tt) in
           let r = session-read v in
           let e = ap (λ (x : Values session). x.0) b.values in
           let k = length-take s.len s.bytes in
           (b.form, rw (r.reading, b.fields, e, le-leb (length (take s.len s.bytes)) 64 (omega arith)), r.id ∙ e);
       report = λ i ids a l c.
           let x = written_back.report i ids a l c in
-          let v = write_by report_subscribe (number_given (interval_number i), (map decimal (held ids), (none, ([], tt)))) in
+          let v = write_by report_subscribe (interval_number i, (map decimal (held ids), (None, ([], tt)))) in
           let r = report-read v in
           let p = ap (λ (y : Values report_subscribe). y.1.0) x.values in
           let q = ap (λ (y : Values report_subscribe). y.1.1.1.0) x.values in

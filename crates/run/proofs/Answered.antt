@@ -1,4 +1,5 @@
 -- A payload has responses exactly where one of its records is answered.
+use Rattle.std.specs.Prelude.{Option}
 use Prim.Native.Nat.{ℕ, ◌≤◌}
 use mathlib.Core.Path.{◌≡◌, refl, sym, ◌∙◌}
 use mathlib.Core.List.{List, [], ◌∷◌}
@@ -10,15 +11,15 @@ use Rattle.buffer.specs.Listed.{listed}
 use Rattle.buffer.proofs.Tests.{split, pick-both, neither}
 use Rattle.csmp.specs.declared.Hash.{Hash}
 use Rattle.encode_image.specs.Write.{response_record}
-use Rattle.schedule.specs.declared.Moment.{Moment}
 use Rattle.state.specs.declared.Device.{Device}
 use Rattle.step.specs.Step.{World, act, response, is_request}
 use Rattle.tlv.specs.Record.{Tlv, record_bytes}
 use Rattle.varint.proofs.Laws.{varint-length, delimited-length}
 use Rattle.run.specs.Run.{responses, any_answered}
+use Rattle.schedule.specs.declared.Point.{Point}
 
 -- a response is not empty
-record-filled : (k : ℕ) (h : Hash) (answer : ℕ) (time : Moment) → 1 ≤ length (response_record k h answer time)
+record-filled : (k : ℕ) (h : Hash) (answer : ℕ) (time : Option Point) → 1 ≤ length (response_record k h answer time)
 unfolding response_record
 record-filled k h answer time = filled k _
   where

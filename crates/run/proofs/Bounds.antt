@@ -1,4 +1,5 @@
 -- A response takes at most 44 bytes, those of 24 records 1,056.
+use Rattle.std.specs.Prelude.{None, Option, Some}
 use Prim.Native.Nat.{ℕ, ◌*◌, ◌%◌, ◌^◌, ◌≤◌, ◌<◌}
 use mathlib.Core.Path.{◌≡◌, refl}
 use mathlib.Core.List.{List, [], ◌∷◌}
@@ -25,11 +26,6 @@ use Rattle.message.specs.Read.{number_of}
 use Rattle.csmp.specs.Tables.{load_request}
 use Rattle.tables.specs.Found.{found_in}
 use Rattle.protobuf.specs.Write.{if_any}
-use Rattle.protobuf.specs.declared.Bytes.{Bytes}
-use Rattle.protobuf.specs.declared.Bytes.TheVariants.{At as Lies, Absent as NoBytes}
-use Rattle.protobuf.specs.declared.Number.TheVariants.{Given, Absent}
-use Rattle.schedule.specs.declared.Moment.{Moment}
-use Rattle.schedule.specs.declared.Moment.TheVariants.{At, Absent as Never}
 use Rattle.schedule.specs.declared.Point.{Point}
 use Rattle.state.specs.declared.Device.{Device}
 use Rattle.state.specs.declared.Images.{Images}
@@ -39,9 +35,10 @@ use Rattle.answer.specs.Answer.{load_time}
 use Rattle.step.specs.Step.{World, act, response}
 use Rattle.tlv.specs.Record.{Tlv}
 use Rattle.run.specs.Run.{responses}
+use Rattle.protobuf.specs.declared.Span.{Span}
 
 -- a time that was read
-time-never : length (time_field Never) ≤ 6
+time-never : length (time_field None) ≤ 6
 unfolding if_any moment_number
 time-never = omega arith
 
@@ -49,15 +46,15 @@ time-most : (answer : ℕ) (v : List ℕ) → length (time_field (load_time answ
 unfolding load_time load_of number_of moment_of moment_number if_any
 time-most answer v = let c = (found_in load_request v).1.0.0 in go (eqb answer 0) (eqb c.count 0) c.first
   where
-    go : (t u : Bool) (n : ℕ) → length (time_field (pick t (moment_of (pick u Absent (Given (n % 2 ^ 32)))) Never)) ≤ 6
+    go : (t u : Bool) (n : ℕ) → length (time_field (pick t (moment_of (pick u None (Some (n % 2 ^ 32)))) None)) ≤ 6
     go true true n = omega arith
     go true false n = word-most 3 (n % 2 ^ 32) (omega arith) (omega arith)
     go false u n = omega arith
 
-hash-length : (v : List ℕ) (place : Bytes) → length (echoed v place).bytes ≡ 32
+hash-length : (v : List ℕ) (place : Option Span) → length (echoed v place).bytes ≡ 32
 unfolding echoed hash_at
-hash-length v (Lies a e) = length-sets {A = ℕ} (replicate 32 0) 0 (bytes_at v a e)
-hash-length v NoBytes = refl
+hash-length v (Some x) = length-sets {A = ℕ} (replicate 32 0) 0 (bytes_at v x.start x.end)
+hash-length v None = refl
 
 -- answers are small
 below : (t : Bool) {a b : ℕ} → a < 128 → b < 128 → pick t a b < 128
@@ -88,10 +85,10 @@ unfolding loads
 loads-below i hash time =
     below_of (eqb (source_fault i hash) 0) _ _ (below_of (eqb (pending_fault i hash) 0) _ _ (lit 0 refl) (pending-below i hash)) (source-below i hash)
 
-loads-at-below : (i : Images) (hash : List ℕ) (time : Moment) → (loads_at i hash time).answer < 128
+loads-at-below : (i : Images) (hash : List ℕ) (time : Option Point) → (loads_at i hash time).answer < 128
 unfolding loads_at
-loads-at-below i hash (At t) = below_of (eqb t.0 0) _ _ (lit 6 refl) (loads-below i hash t)
-loads-at-below i hash Never = lit 6 refl
+loads-at-below i hash (Some t) = below_of (eqb t.0 0) _ _ (lit 6 refl) (loads-below i hash t)
+loads-at-below i hash None = lit 6 refl
 
 load_below : (i : Images) (v : List ℕ) → (load_answered i v).answer < 128
 unfolding load_answered load_taken

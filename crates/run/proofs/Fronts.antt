@@ -1,4 +1,5 @@
 -- Laws of the blocks at a payload's front: each is put, and what is left leads to what all records lead to.
+use Rattle.std.specs.Prelude.{None, Some}
 use Prim.Native.Nat.{ℕ, ◌-◌, ◌≤◌, ◌<◌}
 use mathlib.Core.Path.{◌≡◌, refl, sym, ap, ◌∙◌}
 use mathlib.Core.List.{List, [], ◌++◌}
@@ -14,9 +15,8 @@ use Rattle.state.specs.declared.Device.{Device}
 use Rattle.state.specs.declared.Images.{Images}
 use Rattle.state.specs.declared.Registration.{Registration}
 use Rattle.step.specs.Step.{World, block_taken, is_request, needs_more, act, response}
-use Rattle.tlv.specs.Record.{valued, records, record_at}
+use Rattle.tlv.specs.Record.{valued, record_at}
 use Rattle.tlv.specs.declared.Record.{Record}
-use Rattle.tlv.specs.declared.Taken.TheVariants.{Record as Whole, Unreadable}
 use Rattle.transfer.specs.Bitmap.{with_held}
 use Rattle.transfer.specs.Block.{offered, take_of, take_block, Parts, Left}
 use Rattle.run.specs.Run.{records_at, world_with, ran, responses}
@@ -73,7 +73,7 @@ module _ (i : Images) (flash₀ p : List ℕ) where
       rw (← q.mapped, ← q.counted)
       (record { world = λ d reg. rw (at-start p); body = λ d reg. rw (at-start p); fewer = rw (at-start p) (omega arith) })
 
-  pub front-unreadable : {next : Images} {at : ℕ} {flash : List ℕ} → FrontBy i flash₀ p next at flash → at < length p → record_at p at ≡ Unreadable
+  pub front-unreadable : {next : Images} {at : ℕ} {flash : List ℕ} → FrontBy i flash₀ p next at flash → at < length p → record_at p at ≡ None
       → FrontBy i flash₀ p next (length p) flash
   front-unreadable {next} {at} {flash} f h e =
       let a = at-unreadable p at h e in
@@ -86,7 +86,7 @@ module _ (i : Images) (flash₀ p : List ℕ) where
         fewer = rw b at m;
       }
 
-  module _ {next : Images} {at : ℕ} {flash : List ℕ} (f : FrontBy i flash₀ p next at flash) (r : Record) (e : record_at p at ≡ Whole r) (h : needs_more r.kind ≡ false) where
+  module _ {next : Images} {at : ℕ} {flash : List ℕ} (f : FrontBy i flash₀ p next at flash) (r : Record) (e : record_at p at ≡ Some r) (h : needs_more r.kind ≡ false) where
     front_by : {after : Images} {left : List ℕ}
         → ((d : Device) (reg : Registration) → act d (world_with next reg flash) r.kind (valued p r).value ≡ world_with after reg left)
         → FrontBy i flash₀ p after r.end left

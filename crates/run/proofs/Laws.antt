@@ -1,4 +1,5 @@
 -- Laws of judged payloads: one that runs has few records, whose values can be read; and what a post leaves.
+use Rattle.std.specs.Prelude.{Ok, Err}
 use Prim.Native.Nat.{ℕ, ◌+◌, ◌≤◌}
 use mathlib.Core.Path.{◌≡◌, refl, sym, ap, ap₂, ◌∙◌}
 use mathlib.Core.List.{List, [], ◌∷◌}
@@ -9,10 +10,8 @@ use lib.Dec.{eqb, leb}
 use lib.ListN.{length}
 use Rattle.buffer.specs.Pick.{pick}
 use Rattle.buffer.proofs.Tests.{both}
-use Rattle.post.specs.Judge.{noted, seen_of, nothing_seen, sealed, looked_at, padded_in, LookedBy, judged, judged_as}
+use Rattle.post.specs.Judge.{Judgement, noted, seen_of, nothing_seen, sealed, looked_at, padded_in, LookedBy, judged, judged_as}
 use Rattle.post.specs.Value.{is_readable}
-use Rattle.post.specs.declared.Judgement.{Judgement}
-use Rattle.post.specs.declared.Judgement.TheVariants.{Error, Run}
 use Rattle.post.specs.declared.Looked.{Looked}
 use Rattle.post.specs.declared.Seen.{Seen}
 use Rattle.protobuf.specs.Each.{Each}
@@ -59,7 +58,7 @@ module _ (g : Groups) (time : Point) where
       go false h = let z : ◌≡◌ {A = ℕ} 0 1 = cc in absurd (omega arith)
 
 -- what runs can be read and has at most 24 records
-judged-run : (s : Seen) (verdict : ℕ) (required : Bool) → judged s verdict required ≡ Run → (s.readable ≡ true) × (s.records ≤ 24)
+judged-run : (s : Seen) (verdict : ℕ) (required : Bool) → judged s verdict required ≡ Ok tt → (s.readable ≡ true) × (s.records ≤ 24)
 unfolding judged
 judged-run s verdict required h =
     let a = leb s.records 24 in
@@ -68,19 +67,19 @@ judged-run s verdict required h =
     let x = both s.readable b e in
     (x.0, leb-true s.records 24 (both (not (eqb s.records 0)) a x.1).1)
   where
-    go : (t : Bool) (x : Judgement) → pick t x (Error 128) ≡ Run → t ≡ true
+    go : (t : Bool) (x : Judgement) → pick t x (Err 128) ≡ Ok tt → t ≡ true
     go true x q = refl
     go false x q = let z : ◌≡◌ {A = ℕ} 0 1 = cc in absurd (omega arith)
 
-judged-as-run : (refuse padded : Bool) (s : Seen) (verdict : ℕ) (required : Bool) → judged_as refuse padded s verdict required ≡ Run → judged s verdict required ≡ Run
+judged-as-run : (refuse padded : Bool) (s : Seen) (verdict : ℕ) (required : Bool) → judged_as refuse padded s verdict required ≡ Ok tt → judged s verdict required ≡ Ok tt
 unfolding judged_as
 judged-as-run refuse padded s verdict required = go (refuse && padded)
   where
-    go : (t : Bool) → pick t (Error 128) (judged s verdict required) ≡ Run → judged s verdict required ≡ Run
+    go : (t : Bool) → pick t (Err 128) (judged s verdict required) ≡ Ok tt → judged s verdict required ≡ Ok tt
     go true q = let z : ◌≡◌ {A = ℕ} 0 1 = cc in absurd (omega arith)
     go false q = q
 
-module _ (g : Groups) (time : Point) (p : List ℕ) (verdict : ℕ) (required refuse : Bool) (h : judged_as refuse (padded_in p) (looked_at g time p) verdict required ≡ Run) where
+module _ (g : Groups) (time : Point) (p : List ℕ) (verdict : ℕ) (required refuse : Bool) (h : judged_as refuse (padded_in p) (looked_at g time p) verdict required ≡ Ok tt) where
   runs : ((looked_at g time p).readable ≡ true) × ((looked_at g time p).records ≤ 24)
   runs = judged-run (looked_at g time p) verdict required (judged-as-run refuse (padded_in p) (looked_at g time p) verdict required h)
 
@@ -94,27 +93,27 @@ module _ (g : Groups) (time : Point) (p : List ℕ) (verdict : ℕ) (required re
 
 -- the records that are still to run lead to what all of them lead to
 from-run : (d : Device) (w : World) (p : List ℕ) (next : World) (at : ℕ) {code : ℕ} {padded told : Bool} → code ≡ 65 → told ≡ padded → ran d w (records p) ≡ ran d next (records_at p at)
-    → responses d w (records p) ≡ responses d next (records_at p at) → posted_as d w p padded Run ≡ posted_from d next p at code told
+    → responses d w (records p) ≡ responses d next (records_at p at) → posted_as d w p padded (Ok tt) ≡ posted_from d next p at code told
 unfolding posted_as
 from-run d w p next at e f a b = rw (e, f, a, b)
 
 -- what a post begins with, by the judgement
 module _ (i : Images) (g : Groups) (signed refuse : Bool) (flash p : List ℕ) (time : Point) (verdict : ℕ) {looked : Looked} (l : LookedBy g time p looked) where
-  pub begun-error : {code : ℕ} {j : Judgement} → j ≡ judged_as refuse looked.padded looked.seen verdict signed → j ≡ Error code
+  pub begun-error : {code : ℕ} {j : Judgement} → j ≡ judged_as refuse looked.padded looked.seen verdict signed → j ≡ Err code
       → BegunBy i g signed refuse flash p time verdict (record { code = code; at = length p; images = i; padded = false }) flash
   unfolding posted posted_as judged_at ran responses
   begun-error h k =
-      let f : judged_as refuse (padded_in p) (looked_at g time p) verdict signed ≡ Error _ =
+      let f : judged_as refuse (padded_in p) (looked_at g time p) verdict signed ≡ Err _ =
       ap₂ (λ (b : Bool) (s : Seen). judged_as refuse b s verdict signed) (sym l.padded) (sym l.seen) ∙ sym h ∙ k in
       let z : length p ≤ length p = omega arith in
       let a = at-end p (length p) z in
       record { post = λ d reg q o. rw (q, o, f, a); few = rw a (omega arith); created = λ m. absurd (omega arith); judged = λ d q o m. absurd (omega arith) }
 
-  pub begun-run : {j : Judgement} {r : Begun} {left : List ℕ} → j ≡ judged_as refuse looked.padded looked.seen verdict signed → j ≡ Run
+  pub begun-run : {j : Judgement} {r : Begun} {left : List ℕ} → j ≡ judged_as refuse looked.padded looked.seen verdict signed → j ≡ Ok tt
       → (r.code ≡ 65) × (r.padded ≡ looked.padded) × FrontBy i flash p r.images r.at left → BegunBy i g signed refuse flash p time verdict r left
   unfolding posted posted_as judged_at
   begun-run {r = r} {left = left} h k b =
-      let f : judged_as refuse (padded_in p) (looked_at g time p) verdict signed ≡ Run =
+      let f : judged_as refuse (padded_in p) (looked_at g time p) verdict signed ≡ Ok tt =
       ap₂ (λ (b : Bool) (s : Seen). judged_as refuse b s verdict signed) (sym l.padded) (sym l.seen) ∙ sym h ∙ k in
       let n = run-few g time p verdict signed refuse f in
       let m = b.2.fewer in

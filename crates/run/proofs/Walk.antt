@@ -1,4 +1,5 @@
 -- Laws of the loop over a payload's records: what they did so far, and what those that are left do.
+use Rattle.std.specs.Prelude.{None, Some}
 use Prim.Native.Nat.{ℕ, ◌+◌, ◌*◌, ◌≤◌, ◌<◌}
 use mathlib.Core.Path.{◌≡◌, refl, ap, ◌∙◌}
 use mathlib.Core.List.{List, [], ◌∷◌, ◌++◌}
@@ -12,7 +13,6 @@ use Rattle.buffer.proofs.Stretches.{fits-true}
 use Rattle.state.specs.declared.Device.{Device}
 use Rattle.tlv.specs.Record.{valued, records, record_at}
 use Rattle.tlv.specs.declared.Record.{Record}
-use Rattle.tlv.specs.declared.Taken.TheVariants.{Record as Whole, Unreadable}
 use Rattle.tlv.proofs.Laws.{records-end, records-more, records-unreadable}
 use Rattle.step.specs.Step.{World, world_of, act, response, is_request}
 use Rattle.run.specs.Run.{records_at, ran, responses, RanBy, any_answered}
@@ -28,11 +28,11 @@ pub at-end : (p : List ℕ) (at : ℕ) → length p ≤ at → records_at p at �
 unfolding records_at
 at-end p at h = rw (records-end p at h)
 
-pub at-unreadable : (p : List ℕ) (at : ℕ) → at < length p → record_at p at ≡ Unreadable → records_at p at ≡ []
+pub at-unreadable : (p : List ℕ) (at : ℕ) → at < length p → record_at p at ≡ None → records_at p at ≡ []
 unfolding records_at
 at-unreadable p at h e = rw (records-unreadable p at h e)
 
-pub at_next : (p : List ℕ) (at : ℕ) (r : Record) → record_at p at ≡ Whole r → records_at p at ≡ valued p r ∷ records_at p r.end
+pub at_next : (p : List ℕ) (at : ℕ) (r : Record) → record_at p at ≡ Some r → records_at p at ≡ valued p r ∷ records_at p r.end
 unfolding records_at
 at_next p at r e = rw (records-more p at r e)
 
@@ -61,7 +61,7 @@ module _ (d : Device) (w₀ : World) (p : List ℕ) (from : ℕ) (out₀ : List 
       }
 
   pub going_next : (cur : ℕ) (w : World) (out : List ℕ) (end : ℕ) (r : Record) (next : World) (left : List ℕ) (m : ℕ)
-      → Going d w₀ p from out₀ at cur w out end → record_at p cur ≡ Whole r → next ≡ act d w r.kind (valued p r).value
+      → Going d w₀ p from out₀ at cur w out end → record_at p cur ≡ Some r → next ≡ act d w r.kind (valued p r).value
       → Put out end (response d w r.kind (valued p r).value) left m → Going d w₀ p from out₀ at r.end next left m
   unfolding ran responses placed after
   going_next cur w out end r next left m g e n q =
@@ -88,7 +88,7 @@ pub answered-end : (p : List ℕ) (at : ℕ) → records_at p at ≡ [] → any_
 unfolding any_answered
 answered-end p at e = rw e
 
-module _ (p : List ℕ) (at : ℕ) (r : Record) (e : record_at p at ≡ Whole r) where
+module _ (p : List ℕ) (at : ℕ) (r : Record) (e : record_at p at ≡ Some r) where
   pub answered-here : is_request r.kind ≡ true → any_answered (records_at p at) ≡ true
   unfolding any_answered
   answered-here h = rw (at_next p at r e, h)

@@ -8,7 +8,6 @@ ghost use Rattle.run.specs.Front.{FrontBy, with_blocks};
 use decode_image::Block;
 use post::Looked;
 use state::Images;
-use tlv::Taken;
 
 // What a post began with: the code of its reply, where the records stand that are still to run, the images, and whether the records may run
 // and a varint that was read is padded.
@@ -58,7 +57,7 @@ fn take_blocks(
     let mut held = first;
     let mut at = 0;
     while at < payload.len() {
-        let Taken::Record(r) = tlv::take_record(payload, at) else {
+        let Some(r) = tlv::take_record(payload, at) else {
             return Reached {
                 held,
                 at: payload.len(),

@@ -12,10 +12,8 @@ ghost use Rattle.run.specs.Post.{BegunBy};
 
 use answer::Ran;
 pub use front::Begun;
-use post::Judgement;
 use schedule::Point;
 use state::{Device, Groups, Images, Registration};
-use tlv::Taken;
 
 // Steps e to i, and of step j the blocks at the payload's front: the code of the reply, where the records stand that are still to run, the
 // images, and whether a varint is padded. On an error nothing changes.
@@ -34,13 +32,13 @@ pub fn begin(
     let looked = post::look(payload, groups, time);
     let seen = looked.seen;
     match post::judge(seen, looked.padded, verdict, signed_posts, refuse_padding) {
-        Judgement::Error(code) => Begun {
+        Err(code) => Begun {
             code,
             at: payload.len(),
             images,
             padded: false,
         },
-        Judgement::Run => front::take_front(images, flash, payload, looked),
+        Ok(()) => front::take_front(images, flash, payload, looked),
     }
 }
 
@@ -50,7 +48,7 @@ pub fn is_answered(payload: &[u8]) -> bool
 {
     let mut at = 0;
     while at < payload.len() {
-        let Taken::Record(r) = tlv::take_record(payload, at) else {
+        let Some(r) = tlv::take_record(payload, at) else {
             return false;
         };
         if step::is_request(r.kind) {
@@ -75,7 +73,7 @@ fn run(
     let mut ran = first;
     let mut at = from;
     while at < payload.len() {
-        let Taken::Record(r) = tlv::take_record(payload, at) else {
+        let Some(r) = tlv::take_record(payload, at) else {
             return ran;
         };
         let start = r.start;

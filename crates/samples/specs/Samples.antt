@@ -1,15 +1,11 @@
 -- Document 01, "Sample values": the cases marked *, in its order, as one statement over a list. What is written is told by its bytes. What is read
 -- is shown as numbers: a varint or a field that is refused or absent shows none, and one that is there at least one.
-use Rattle.std.specs.Prelude.{ℕ, zero, suc, ◌-◌, ◌^◌, ◌≡◌, List, [], ◌∷◌, ◌++◌, map, false, length, take, replicate}
-use Rattle.std.proofs.Math.Option.{Option, none, some}
+use Rattle.std.specs.Prelude.{ℕ, zero, suc, ◌-◌, ◌^◌, ◌≡◌, List, [], ◌∷◌, ◌++◌, map, false, length, take, replicate, None, Option, Some}
 use Rattle.buffer.specs.Pick.{pick}
 use Rattle.varint.specs.Varint.{varint_at, varint}
-use Rattle.varint.specs.declared.Varint.{Varint}
-use Rattle.varint.specs.declared.Varint.TheVariants.{Number, Unreadable}
 use Rattle.schedule.specs.declared.Length.{Length}
-use Rattle.schedule.specs.declared.Moment.TheVariants.{Absent as Never}
 use Rattle.tlv.specs.Record.{Tlv, records, readable, record_bytes}
-use Rattle.protobuf.specs.Given.{number_given, bytes_given}
+use Rattle.protobuf.specs.Given.{bytes_given}
 use Rattle.tables.specs.Table.{write_by}
 use Rattle.csmp.specs.Tables.{group}
 use Rattle.csmp.specs.declared.Image.{Image}
@@ -20,6 +16,7 @@ use Rattle.transfer.specs.Blocks.{blocks, block_length}
 use Rattle.transfer.specs.Bitmap.{held, marked}
 use Rattle.images.specs.Images.{map_length}
 use Rattle.registration.specs.Backoff.{doubled}
+use Rattle.varint.specs.declared.Varint.{Varint}
 
 -- a sample: what the definitions give, and what it should be
 pub record Sample : Type 0 where
@@ -27,21 +24,21 @@ pub record Sample : Type 0 where
   pub should : List ℕ
 
 -- a varint at the start of bytes: its number, where it ends, and 1 where it is padded (document 02, Q-8)
-abbrev pub varint_shown : Varint → List ℕ
-varint_shown (Number v next padded) = v ∷ next ∷ pick padded 1 0 ∷ []
-varint_shown Unreadable = []
+abbrev pub varint_shown : Option Varint → List ℕ
+varint_shown (Some x) = x.value ∷ x.next ∷ pick x.padded 1 0 ∷ []
+varint_shown None = []
 
 abbrev pub varint_read : List ℕ → List ℕ
 varint_read s = varint_shown (varint_at s 0)
 
 -- a field: a number; bytes behind their length, so that empty ones are not absent
 abbrev pub number_shown : Option ℕ → List ℕ
-number_shown none = []
-number_shown (some n) = n ∷ []
+number_shown None = []
+number_shown (Some n) = n ∷ []
 
 abbrev pub bytes_shown : Option (List ℕ) → List ℕ
-bytes_shown none = []
-bytes_shown (some bs) = length bs ∷ bs
+bytes_shown None = []
+bytes_shown (Some bs) = length bs ∷ bs
 
 -- a payload of one record: its type, then its value as a reader shows it
 abbrev pub one_shown : (List ℕ → List ℕ) → List Tlv → List ℕ
@@ -58,7 +55,7 @@ session_shown v = pick (session_of v).reading.readable (bytes_shown (bytes_given
 
 -- 55: type, id
 abbrev pub group_shown : List ℕ → List ℕ
-group_shown v = pick (group_of v).reading.readable (number_shown (number_given (group_of v).kind) ++ number_shown (number_given (group_of v).id)) []
+group_shown v = pick (group_of v).reading.readable (number_shown (group_of v).kind ++ number_shown (group_of v).id) []
 
 -- session "ab"
 abbrev pub session_bytes : List ℕ
@@ -101,10 +98,10 @@ samples =
     ∷ record { is = session_record (record { bytes = 0x61 ∷ 0x62 ∷ replicate 62 0; len = 2 }); should = session_bytes }
     ∷ record { is = record_read session_shown session_bytes; should = 7 ∷ 2 ∷ 0x61 ∷ 0x62 ∷ [] }
     -- GroupAssign 1, 300 `37 05 08 01 10 AC 02`
-    ∷ record { is = record_bytes 55 (write_by group (some 1, (some 300, tt))); should = group_bytes }
+    ∷ record { is = record_bytes 55 (write_by group (Some 1, (Some 300, tt))); should = group_bytes }
     ∷ record { is = record_read group_shown group_bytes; should = 55 ∷ 1 ∷ 300 ∷ [] }
     -- 72 without hash, answer 6 `48 02 10 06`
-    ∷ record { is = response_record 72 (record { given = false; bytes = replicate 32 0 }) 6 Never; should = 0x48 ∷ 0x02 ∷ 0x10 ∷ 0x06 ∷ [] }
+    ∷ record { is = response_record 72 (record { given = false; bytes = replicate 32 0 }) 6 None; should = 0x48 ∷ 0x02 ∷ 0x10 ∷ 0x06 ∷ [] }
     -- size 2,500 by 1,000: 3 blocks, last 500
     ∷ record { is = blocks 2500 1000 ∷ map (block_length 2500 1000) (0 ∷ 1 ∷ 2 ∷ []); should = 3 ∷ 1000 ∷ 1000 ∷ 500 ∷ [] }
     -- blocks 0 and 2 held: `A0`

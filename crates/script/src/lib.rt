@@ -6,7 +6,6 @@ mod call;
 ghost use Rattle.std.specs.Prelude.{◌≤◌, ◌<◌, length};
 
 pub use call::{image_room, set_up, time, which};
-use decimal::Id;
 
 // Where a line stands in the text: from its begin to behind its line feed.
 #[derive(Clone, Copy)]
@@ -19,17 +18,18 @@ pub struct Line {
 pub fn line_at(s: &[u8], at: usize) -> Line
     ensures { at < length s.now → at < result.end }
 {
-    let mut i = at;
-    while i < s.len() {
+    for i in at..s.len() {
         if s[i] == b'\n' {
             return Line {
                 start: at,
                 end: i + 1,
             };
         }
-        i += 1;
     }
-    Line { start: at, end: i }
+    Line {
+        start: at,
+        end: s.len().max(at),
+    }
 }
 
 // A line without its line feed.
@@ -62,28 +62,24 @@ pub fn stands(s: &[u8], at: usize, word: &[u8]) -> bool {
 
 // The letters from `at` up to the next blank.
 pub fn word_at(s: &[u8], at: usize) -> &[u8] {
-    let mut i = at;
-    while i < s.len() {
+    for i in at..s.len() {
         if s[i] == b' ' {
             return buffer::part(s, at, i);
         }
-        i += 1;
     }
-    buffer::part(s, at, i)
+    buffer::rest(s, at)
 }
 
 // Where `word` first stands; the text's end where it does not.
 fn find(s: &[u8], word: &[u8]) -> usize
     ensures { result ≤ length s.now }
 {
-    let mut i = 0;
-    while i < s.len() {
+    for i in 0..s.len() {
         if stands(s, i, word) {
             return i;
         }
-        i += 1;
     }
-    i
+    s.len()
 }
 
 // The value behind a key.
@@ -97,7 +93,7 @@ pub fn value<'a>(s: &'a [u8], key: &[u8]) -> &'a [u8] {
 
 // The number behind a key; 0 where there is none.
 pub fn number(s: &[u8], key: &[u8]) -> u32 {
-    let Id::Given(n) = decimal::read(value(s, key)) else {
+    let Some(n) = decimal::read(value(s, key)) else {
         return 0;
     };
     n
@@ -124,16 +120,14 @@ fn digit(b: u8) -> u8
 
 // The bytes that hex spells, at the front of `out`, and how many they are; what `out` has no room for is left out.
 pub fn unhex(s: &[u8], out: &mut [u8]) -> usize {
-    let mut n = 0;
-    while n < out.len() {
+    for n in 0..out.len() {
         let at = n * 2;
         if s.len() < at + 2 {
             return n;
         }
         out[n] = digit(s[at]) * 16 + digit(s[at + 1]);
-        n += 1;
     }
-    n
+    out.len()
 }
 
 // The line that gives the store held, behind the line `next`.

@@ -1,14 +1,11 @@
 -- Setup, document 01, "Sizes" and refusal 11.
-use Rattle.std.specs.Prelude.{ℕ, List, [], ◌∷◌, Bool, false, ◌&&◌, length, replicate, eqb, leb}
+use Rattle.std.specs.Prelude.{ℕ, List, [], ◌∷◌, Bool, false, ◌&&◌, length, replicate, eqb, leb, None}
 use Rattle.std.proofs.lemmas.List.Edits.{sets}
 use Rattle.buffer.specs.Pick.{pick}
 use Rattle.csmp.specs.declared.Image.{Image}
 use Rattle.decimal.specs.Ids.{no_ids}
 use Rattle.schedule.specs.declared.Length.{Length}
-use Rattle.schedule.specs.declared.Interval.TheVariants.{Absent}
 use Rattle.state.specs.Groups.{no_pair}
-use Rattle.state.specs.declared.HwId.{HwId}
-use Rattle.state.specs.declared.Url.{Url}
 use Rattle.state.specs.declared.Groups.{Groups}
 use Rattle.state.specs.declared.Images.{Images}
 use Rattle.state.specs.declared.Pending.{Pending}
@@ -20,13 +17,15 @@ use Rattle.state.specs.declared.Waiting.{Waiting}
 use Rattle.state.specs.declared.What.TheVariants.{Index}
 use Rattle.state.specs.declared.setup.Settings.{Settings}
 use Rattle.state.specs.declared.setup.Setup.{Setup}
+use Rattle.buffer.specs.Text.{text_of}
+use Rattle.buffer.specs.declared.text.Text.{Text}
 
--- texts held by value, with zeros behind them
-unfoldable pub hw_id_of : List ℕ → HwId
-hw_id_of s = record { bytes = sets (replicate 32 0) 0 s; len = length s }
+-- texts and hashes held by value, with zeros behind them
+abbrev pub hw_id_of : List ℕ → Text 32
+hw_id_of s = text_of 32 s
 
-unfoldable pub url_of : List ℕ → Url
-url_of s = record { bytes = sets (replicate 128 0) 0 s; len = length s }
+abbrev pub url_of : List ℕ → Text 128
+url_of s = text_of 128 s
 
 unfoldable pub hash_of : List ℕ → List ℕ
 hash_of s = sets (replicate 32 0) 0 s
@@ -66,9 +65,9 @@ none_assigned =
     record {
       groups = no_groups;
       in_session = false;
-      session = record { bytes = replicate 64 0; len = 0 };
+      session = text_of 64 [];
       reporting = false;
-      interval = Absent;
+      interval = None;
       ids = no_ids;
     }
 
@@ -80,7 +79,7 @@ abbrev pub none_waiting : Waiting
 none_waiting = record { list = free_at 0 ∷ free_at 1 ∷ free_at 2 ∷ free_at 3 ∷ []; count = 0 }
 
 -- setup starts registration: not accepted, no round awaited, interval tIntervalMin
-abbrev pub starting_at : Length → Url → ℕ → Registration
+abbrev pub starting_at : Length → Text 128 → ℕ → Registration
 starting_at interval url id =
     record { accepted = false; awaited = false; round = 0; interval = interval; immediate = false; url = url; message_id = id }
 

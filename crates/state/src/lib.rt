@@ -3,24 +3,16 @@
 
 mod setup;
 
+use buffer::Text;
 use csmp::{Hash, Image, SessionId};
 use decimal::Ids;
-use schedule::{Interval, Length, Point};
-pub use setup::{Settings, Setup, no_pending, set_up, url_of};
+use schedule::{Length, Point};
+pub use setup::{Settings, Setup, no_pending, set_up};
 
-// A hardware id: the first `len` of `bytes`.
-#[derive(Clone, Copy)]
-pub struct HwId {
-    pub bytes: [u8; 32],
-    pub len: usize,
-}
+// A hardware id.
+pub type HwId = Text<32>;
 
-// A URL: the first `len` of `bytes`.
-#[derive(Clone, Copy)]
-pub struct Url {
-    pub bytes: [u8; 128],
-    pub len: usize,
-}
+pub type Url = Text<128>;
 
 // What setup gives; `home` is the URL that a boot restores. Whether padding is refused may change later, nothing else.
 #[derive(Clone, Copy)]
@@ -75,7 +67,7 @@ pub struct Assigned {
     pub in_session: bool,
     pub session: SessionId,
     pub reporting: bool,
-    pub interval: Interval,
+    pub interval: Option<Length>,
     pub ids: Ids,
 }
 

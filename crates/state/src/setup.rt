@@ -1,13 +1,14 @@
 // Setup: every value is checked, and a first state is made.
 ghost use Rattle.std.specs.Prelude.{◌≡◌};
-ghost use Rattle.state.specs.Setup.{hw_id_of, url_of, hash_of, no_image, no_pending, no_groups, only_running, none_assigned, free_at, none_waiting, starting_at, within, valid_texts, valid_settings, first_state, blank_state, refused_setup, setup_of};
+ghost use Rattle.state.specs.Setup.{hash_of, no_image, no_pending, no_groups, only_running, none_assigned, free_at, none_waiting, starting_at, within, valid_texts, valid_settings, first_state, blank_state, refused_setup, setup_of};
 
 use crate::{
-    Assigned, Delayed, Device, Groups, HwId, Images, Pair, Pending, Registration, State, Url,
-    Waiting, What,
+    Assigned, Delayed, Device, Groups, Images, Pair, Pending, Registration, State, Url, Waiting,
+    What,
 };
-use csmp::{Hash, Image, Name, SessionId, Version};
-use schedule::{Interval, Length, Point};
+use buffer::Text;
+use csmp::{Hash, Image, Name, Version};
+use schedule::{Length, Point};
 
 // The numbers and switches of a setup.
 #[derive(Clone, Copy)]
@@ -25,29 +26,6 @@ pub struct Settings {
 pub struct Setup {
     pub outcome: u32,
     pub state: State,
-}
-
-fn hw_id_of(s: &[u8]) -> HwId
-    ensures { result ≡ hw_id_of s.now }
-{
-    let mut bytes = [0u8; 32];
-    buffer::copy(&mut bytes, s);
-    HwId {
-        bytes,
-        len: s.len(),
-    }
-}
-
-// A URL held by value, with zeros behind it.
-pub fn url_of(s: &[u8]) -> Url
-    ensures { result ≡ url_of s.now }
-{
-    let mut bytes = [0u8; 128];
-    buffer::copy(&mut bytes, s);
-    Url {
-        bytes,
-        len: s.len(),
-    }
 }
 
 fn hash_of(s: &[u8]) -> [u8; 32]
@@ -122,13 +100,10 @@ fn none_assigned() -> Assigned
     Assigned {
         groups: no_groups(),
         in_session: false,
-        session: SessionId {
-            bytes: [0; 64],
-            len: 0,
-        },
+        session: Text::of(b""),
         reporting: false,
-        interval: Interval::Absent,
-        ids: decimal::no_ids(),
+        interval: None,
+        ids: decimal::Ids::empty(),
     }
 }
 
@@ -215,9 +190,9 @@ fn valid_settings(s: Settings) -> bool
 fn first_state(hw_id: &[u8], vendor_hw_id: &[u8], running: &[u8], url: &[u8], s: Settings) -> State
     ensures { result ≡ first_state hw_id.now vendor_hw_id.now running.now url.now s }
 {
-    let home = url_of(url);
-    let ours = hw_id_of(hw_id);
-    let vendors = hw_id_of(vendor_hw_id);
+    let home = Text::of(url);
+    let ours = Text::of(hw_id);
+    let vendors = Text::of(vendor_hw_id);
     let hash = hash_of(running);
     let low = s.interval_min;
     let high = s.interval_max;

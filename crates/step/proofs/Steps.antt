@@ -1,4 +1,5 @@
 -- Laws of one record's run: what each arm of the code says of the definitions.
+use Rattle.std.specs.Prelude.{None, Option}
 use Prim.Native.Nat.{ℕ}
 use mathlib.Core.Path.{◌≡◌, refl}
 use mathlib.Core.List.{List, [], ◌∷◌}
@@ -17,13 +18,12 @@ use Rattle.opening.specs.Open.{transfer_answered}
 use Rattle.firmware.specs.Place.{echoed}
 use Rattle.firmware.specs.declared.Answered.{Answered}
 use Rattle.registration.specs.Redirect.{redirected}
-use Rattle.schedule.specs.declared.Moment.{Moment}
-use Rattle.schedule.specs.declared.Moment.TheVariants.{Absent as Never}
 use Rattle.state.specs.declared.Device.{Device}
 use Rattle.transfer.specs.Block.{Left, offered, take_of, take_block}
 use Rattle.step.specs.Step.{World, with_images, with_flash, world_of, block_taken, act, response, is_request, needs_more, Passed, Stepped}
 use Rattle.answer.specs.Answer.{load_time, Responded}
 use Rattle.answer.specs.declared.Ran.{Ran}
+use Rattle.schedule.specs.declared.Point.{Point}
 
 -- a block
 pub block_closed : (w : World) (v : List ℕ) → w.images.«open» ≡ false → w ≡ block_taken w v
@@ -62,7 +62,7 @@ more-request k h = rw (ne_eqb k 6 h)
 
 -- an arm that answers, and one that does not
 module _ (d : Device) (k : ℕ) (v : List ℕ) (out : List ℕ) (r next : Ran) (flash : List ℕ) where
-  step-answered : {left : List ℕ} (a : Answered) (kind : ℕ) (h : Hash) (time : Moment)
+  step-answered : {left : List ℕ} (a : Answered) (kind : ℕ) (h : Hash) (time : Option Point)
       → act d (world_of r flash) k v ≡ with_images (world_of r flash) a.images
       → response d (world_of r flash) k v ≡ response_record kind h a.answer time
       → Responded r a kind h time out next left → Stepped d (world_of r flash) k v out r.end next flash left
@@ -82,7 +82,7 @@ module _ (d : Device) (k : ℕ) (v : List ℕ) (out : List ℕ) (r next : Ran) (
   unfolding act response
   step-67 now m e f x = step-silent now m (rw e f.0) (rw e) f.1 x
 
-  pub step-65 : {left : List ℕ} → k ≡ 65 → Responded r (transfer_answered d r.images v) 71 (echoed v (transfer_of v).hash) Never out next left
+  pub step-65 : {left : List ℕ} → k ≡ 65 → Responded r (transfer_answered d r.images v) 71 (echoed v (transfer_of v).hash) None out next left
       → Stepped d (world_of r flash) k v out r.end next flash left
   unfolding act response
   step-65 e x = step-answered _ _ _ _ (rw e) (rw e) x
@@ -92,12 +92,12 @@ module _ (d : Device) (k : ℕ) (v : List ℕ) (out : List ℕ) (r next : Ran) (
   unfolding act response
   step-68 e x = step-answered _ _ _ _ (rw e) (rw e) x
 
-  pub step-69 : {left : List ℕ} → k ≡ 69 → Responded r (cancel_answered r.images v) 73 (echoed v (hash_of v).hash) Never out next left
+  pub step-69 : {left : List ℕ} → k ≡ 69 → Responded r (cancel_answered r.images v) 73 (echoed v (hash_of v).hash) None out next left
       → Stepped d (world_of r flash) k v out r.end next flash left
   unfolding act response
   step-69 e x = step-answered _ _ _ _ (rw e) (rw e) x
 
-  pub step-70 : {left : List ℕ} → k ≡ 70 → Responded r (backup_answered r.images v) 74 (echoed v (hash_of v).hash) Never out next left
+  pub step-70 : {left : List ℕ} → k ≡ 70 → Responded r (backup_answered r.images v) 74 (echoed v (hash_of v).hash) None out next left
       → Stepped d (world_of r flash) k v out r.end next flash left
   unfolding act response
   step-70 e x = step-answered _ _ _ _ (rw e) (rw e) x

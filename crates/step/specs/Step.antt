@@ -1,5 +1,5 @@
 -- Step j, document 01, "Requests, in this order" and "Transfer": what one record does, and the response that it gets.
-use Rattle.std.specs.Prelude.{ℕ, ◌≡◌, List, [], ◌∷◌, Bool, ◌||◌, eqb}
+use Rattle.std.specs.Prelude.{ℕ, ◌≡◌, List, [], ◌∷◌, Bool, ◌||◌, eqb, None}
 use Rattle.buffer.specs.Listed.{listed}
 use Rattle.buffer.specs.Pick.{pick}
 use Rattle.buffer.specs.Put.{Put}
@@ -9,7 +9,6 @@ use Rattle.loading.specs.Load.{load_answered, cancel_answered, backup_answered}
 use Rattle.opening.specs.Open.{transfer_answered}
 use Rattle.firmware.specs.Place.{echoed}
 use Rattle.registration.specs.Redirect.{redirected}
-use Rattle.schedule.specs.declared.Moment.TheVariants.{Absent as Never}
 use Rattle.state.specs.declared.Device.{Device}
 use Rattle.state.specs.declared.Images.{Images}
 use Rattle.state.specs.declared.Registration.{Registration}
@@ -62,10 +61,10 @@ act d w k v =
 -- the response that it gets: 71 to 74 echo the request's hash
 unfoldable pub response : Device → World → ℕ → List ℕ → List ℕ
 response d w k v =
-    pick (eqb k 65) (response_record 71 (echoed v (transfer_of v).hash) (transfer_answered d w.images v).answer Never)
+    pick (eqb k 65) (response_record 71 (echoed v (transfer_of v).hash) (transfer_answered d w.images v).answer None)
     (pick (eqb k 68) (response_record 72 (echoed v (load_of v).hash) (load_answered w.images v).answer (load_time (load_answered w.images v).answer (load_of v)))
-    (pick (eqb k 69) (response_record 73 (echoed v (hash_of v).hash) (cancel_answered w.images v).answer Never)
-    (pick (eqb k 70) (response_record 74 (echoed v (hash_of v).hash) (backup_answered w.images v).answer Never) [])))
+    (pick (eqb k 69) (response_record 73 (echoed v (hash_of v).hash) (cancel_answered w.images v).answer None)
+    (pick (eqb k 70) (response_record 74 (echoed v (hash_of v).hash) (backup_answered w.images v).answer None) [])))
 
 -- the records that are answered
 unfoldable pub is_request : ℕ → Bool

@@ -1,9 +1,9 @@
 -- What a message that a table writes reads as: the contents of its rows, one after the other.
+use Rattle.std.specs.Prelude.{None, Option, Some}
 use Prim.Native.Nat.{ℕ, ◌+◌, ◌*◌, ◌^◌, ◌<◌}
 use mathlib.Core.Path.{◌≡◌, refl, ap, ◌∙◌}
 use mathlib.Core.List.{List, [], ◌∷◌, ◌++◌, map, append-nil, append_assoc}
 use mathlib.Core.Bool.{Bool, true, false}
-use mathlib.Core.Option.{Option, none, some}
 use native.Mathlib.Omega.{arith}
 use lib.ListN.{length, length-append}
 use Rattle.buffer.specs.Walk.{Walked}
@@ -38,8 +38,8 @@ spelt-whole bs cs h short = simp append-nil at (h short [] []) ∙ rw (fields-en
 
 -- the contents of a row and of a table's rows
 abbrev listed : {A : Type 0} → Option A → List A
-listed none = []
-listed (some a) = a ∷ []
+listed None = []
+listed (Some a) = a ∷ []
 
 unfoldable pub kind_fields : (k : Kind) → ℕ → Value k → List Content
 kind_fields uint32 n v = map (number_content n) (listed v)
@@ -81,18 +81,18 @@ table-numbers (row n k T) b v o =
 
 spells-kind : (k : Kind) (n : ℕ) (v : Value k) → 0 < n → n < 2 ^ 29 → SmallValue k v → Spells (written k n v) (kind_fields k n v)
 unfolding written if_any kind_fields
-spells-kind uint32 n none h l s = spells-none
-spells-kind uint32 n (some x) h l s = spells-number n x h l (omega arith)
-spells-kind bool n none h l s = spells-none
-spells-kind bool n (some true) h l s = spells-number n 1 h l (omega arith)
-spells-kind bool n (some false) h l s = spells-number n 0 h l (omega arith)
-spells-kind bytes n none h l s = spells-none
-spells-kind bytes n (some bs) h l s = spells-bytes n bs h l
-spells-kind string n none h l s = spells-none
-spells-kind string n (some bs) h l s = spells-bytes n bs h l
+spells-kind uint32 n None h l s = spells-none
+spells-kind uint32 n (Some x) h l s = spells-number n x h l (omega arith)
+spells-kind bool n None h l s = spells-none
+spells-kind bool n (Some true) h l s = spells-number n 1 h l (omega arith)
+spells-kind bool n (Some false) h l s = spells-number n 0 h l (omega arith)
+spells-kind bytes n None h l s = spells-none
+spells-kind bytes n (Some bs) h l s = spells-bytes n bs h l
+spells-kind string n None h l s = spells-none
+spells-kind string n (Some bs) h l s = spells-bytes n bs h l
 spells-kind strings n v h l s = spells-each (bytes_field n) (bytes_content n) v (λ bs. spells-bytes n bs h l)
-spells-kind (message T) n none h l s = spells-none
-spells-kind (message T) n (some m) h l s = spells-bytes n (write_by T m) h l
+spells-kind (message T) n None h l s = spells-none
+spells-kind (message T) n (Some m) h l s = spells-bytes n (write_by T m) h l
 spells-kind (messages T) n v h l s =
     spells-each (λ (m : Values T). bytes_field n (write_by T m)) (λ (m : Values T). bytes_content n (write_by T m)) v (λ m. spells-bytes n (write_by T m) h l)
 
@@ -123,7 +123,7 @@ module _ {b n : ℕ} {k : Kind} {T : Table} {v : Values (row n k T)} (w : Fit b 
   unfolding write_by
   rest-fits = let e = length-append (written k n v.0) (write_by T v.1) in record { ordered = w.ordered.3; small = w.small.1; short = omega arith }
 
-pub held_fits : {n : ℕ} {T : Table} {m : Values T} → FitRow n (message T) (some m) → Fit 0 T m
+pub held_fits : {n : ℕ} {T : Table} {m : Values T} → FitRow n (message T) (Some m) → Fit 0 T m
 unfolding written if_any bytes_field
 held_fits {n} {T} {m} w = let e = delimited-length (n * 8 + 2) (write_by T m) in record { ordered = w.ordered; small = w.small; short = omega arith }
 

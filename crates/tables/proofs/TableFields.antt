@@ -1,4 +1,5 @@
 -- A written field reads back, wherever it stands.
+use Rattle.std.specs.Prelude.{Some}
 use Prim.Native.Nat.{ℕ, ◌+◌, ◌*◌, ◌-◌, ◌/◌, ◌%◌, ◌^◌, ◌<◌}
 use mathlib.Core.Path.{◌≡◌, refl, sym, ap, ◌∙◌}
 use mathlib.Core.List.{List, [], ◌∷◌, ◌++◌, map, append_assoc}
@@ -15,7 +16,6 @@ use Rattle.protobuf.specs.Field.{numbered, held, content_at, field_at, fields_fr
 use Rattle.tables.specs.Table.{Content, content_of}
 use Rattle.protobuf.specs.Write.{number_field, bytes_field}
 use Rattle.protobuf.specs.declared.Field.{Field}
-use Rattle.protobuf.specs.declared.Step.TheVariants.{Field as Whole}
 use Rattle.protobuf.proofs.FieldLaws.{field-tagged, field-within, fields-more}
 
 -- a field as it is written
@@ -39,7 +39,7 @@ Spells bs cs =
     → read_from (front ++ (bs ++ rest)) (length front) ≡ before cs (read_from (front ++ bs ++ rest) (length (front ++ bs)))
 
 -- the bytes of a field are its contents
-spells-field : (front bs rest : List ℕ) {f : Field} {c : Content} → field_at (front ++ (bs ++ rest)) (length front) ≡ Whole f
+spells-field : (front bs rest : List ℕ) {f : Field} {c : Content} → field_at (front ++ (bs ++ rest)) (length front) ≡ Some f
     → f.end ≡ length (front ++ bs) → content_of (front ++ (bs ++ rest)) f ≡ c
     → read_from (front ++ (bs ++ rest)) (length front) ≡ before (c ∷ []) (read_from (front ++ bs ++ rest) (length (front ++ bs)))
 unfolding read_from

@@ -1,4 +1,5 @@
 -- The places that the walk over a value finds lie in it.
+use Rattle.std.specs.Prelude.{None, Option, Some}
 use Prim.Native.Nat.{ℕ, ◌+◌, ◌-◌, ◌≤◌}
 use mathlib.Core.Path.{◌≡◌, refl, subst}
 use mathlib.Core.List.{List, [], ◌∷◌}
@@ -10,19 +11,19 @@ use lib.ListN.{length, drop, length-take}
 use Rattle.buffer.specs.Pick.{pick}
 use Rattle.protobuf.specs.Each.{Each}
 use Rattle.protobuf.specs.Field.{fields}
-use Rattle.protobuf.specs.declared.Bytes.{Bytes}
-use Rattle.protobuf.specs.declared.Bytes.TheVariants.{At, Absent as NoBytes}
 use Rattle.protobuf.specs.declared.Field.{Field}
 use Rattle.protobuf.proofs.EachLaws.{either, each-so, each_over}
 use Rattle.protobuf.proofs.FieldLaws.{Follows, fields-follow}
 use Rattle.message.specs.Read.{wire_of, place_of}
 use Rattle.tables.specs.Table.{Kind, uint32, bool, bytes, string, strings, message, messages, Table, end, row}
 use Rattle.tables.specs.Found.{wire_of_kind, Cell, no_cell, Held, Found, none_held, none_found, Placed, placed_at, placed, is_of, cell_with, each_in, held_with, found_with, found_in, bytes_in}
+use Rattle.protobuf.specs.Given.{spanning}
+use Rattle.protobuf.specs.declared.Span.{Span}
 
 -- bytes that are there lie in the value
-abbrev pub Lies : List ℕ → Bytes → Type 0
-Lies s (At a e) = (a ≤ e) × (e ≤ length s)
-Lies s NoBytes = Unit {0}
+abbrev pub Lies : List ℕ → Option Span → Type 0
+Lies s (Some x) = (x.start ≤ x.end) × (x.end ≤ length s)
+Lies s None = Unit {0}
 
 -- what is found of a row of bytes, and of the rows of what it holds
 abbrev mutual
@@ -83,7 +84,7 @@ module _ (s : List ℕ) where
   cell_lies : (c : Cell) (p : Placed) → Within p → p.content.wire ≡ 2 → Lies s (bytes_in (cell_with c p))
   unfolding cell_with place_of
   cell_lies c p i w =
-      rw (ne_eqb p.content.wire 0 (omega arith)) (either (Lies s) (eqb (cell_with c p).count 0) NoBytes (At p.start p.stop) tt (i.0, i.1))
+      rw (ne_eqb p.content.wire 0 (omega arith)) (either (Lies s) (eqb (cell_with c p).count 0) None (spanning p.start p.stop) tt (i.0, i.1))
 
   -- a field that counts for a row, and one that does not
   row_lies : (n : ℕ) (k : Kind) (c : Cell × Held k) (p : Placed) → (p.content.wire ≡ wire_of_kind k → KindLies s k (cell_with c.0 p, held_with k c.1 p))
@@ -119,5 +120,5 @@ unfolding found_in
 lies T s = each-lies s T (table-lies s T) (placed 0 s) (placed-within s 0 s (omega arith)) (none_found T) (none_lie s T)
 
 -- bytes found at a place lie there
-pub place-within : (s : List ℕ) (c : Cell) → Lies s (bytes_in c) → (a e : ℕ) → bytes_in c ≡ At a e → (a ≤ e) × (e ≤ length s)
+pub place-within : (s : List ℕ) (c : Cell) → Lies s (bytes_in c) → (a e : ℕ) → bytes_in c ≡ spanning a e → (a ≤ e) × (e ≤ length s)
 place-within s c h a e k = subst (Lies s) k h

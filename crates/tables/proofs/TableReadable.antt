@@ -1,9 +1,9 @@
 -- Messages that a table writes can be read by the table, and are not padded.
+use Rattle.std.specs.Prelude.{None, Some}
 use Prim.Native.Nat.{ℕ, zero, suc, ◌≤◌}
 use mathlib.Core.Path.{◌≡◌, refl}
 use mathlib.Core.List.{List, [], ◌∷◌}
 use mathlib.Core.Bool.{Bool, true, false, ◌||◌}
-use mathlib.Core.Option.{none, some}
 use native.Mathlib.Omega.{arith}
 use borrow.Author.Tests.{eq-eqb, ne_eqb}
 use Rattle.protobuf.specs.Each.{Each}
@@ -55,11 +55,11 @@ module _ (nothing : Bool) (text : List ℕ → Bool) (read_to : ℕ → Table �
     kind-tells uint32 d n v l w x = each_all (ByKind nothing text (read_to d) uint32) (λ f. refl) (kind_fields uint32 n v)
     kind-tells bool d n v l w x = each_all (ByKind nothing text (read_to d) bool) (λ f. refl) (kind_fields bool n v)
     kind-tells bytes d n v l w x = each_all (ByKind nothing text (read_to d) bytes) (λ f. refl) (kind_fields bytes n v)
-    kind-tells string d n none l w x = tt
-    kind-tells string d n (some bs) l w x = (x, tt)
+    kind-tells string d n None l w x = tt
+    kind-tells string d n (Some bs) l w x = (x, tt)
     kind-tells strings d n v l w x = each_over (ByKind nothing text (read_to d) strings) (bytes_content n) v x
-    kind-tells (message T) d n none l w x = tt
-    kind-tells (message T) d n (some m) l w x = (message-tells d T m l (held_fits w) (λ e k. table-tells T e 0 m k (held_fits w) x), tt)
+    kind-tells (message T) d n None l w x = tt
+    kind-tells (message T) d n (Some m) l w x = (message-tells d T m l (held_fits w) (λ e k. table-tells T e 0 m k (held_fits w) x), tt)
     kind-tells (messages T) d n v l w x =
         each_over (ByKind nothing text (read_to d) (messages T)) (λ (m : Values T). bytes_content n (write_by T m)) v
         (each_both (Fit 0 T) (StringsIn Told T) (λ (m : Values T). read_to d T (write_by T m) ≡ nothing)
@@ -110,11 +110,11 @@ module _ (P : List ℕ → Type 0) (h : (bs : List ℕ) → P bs) where
     strings-of uint32 v = tt
     strings-of bool v = tt
     strings-of bytes v = tt
-    strings-of string none = tt
-    strings-of string (some bs) = h bs
+    strings-of string None = tt
+    strings-of string (Some bs) = h bs
     strings-of strings v = each_all P h v
-    strings-of (message T) none = tt
-    strings-of (message T) (some m) = strings-in T m
+    strings-of (message T) None = tt
+    strings-of (message T) (Some m) = strings-in T m
     strings-of (messages T) v = each_all (StringsIn P T) (λ m. strings-in T m) v
 
     strings-in : (T : Table) (v : Values T) → StringsIn P T v

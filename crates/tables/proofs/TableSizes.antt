@@ -1,9 +1,9 @@
 -- At most how many bytes a message takes, by the rows of its table.
+use Rattle.std.specs.Prelude.{None, Option, Some}
 use Prim.Native.Nat.{ℕ, ◌+◌, ◌*◌, ◌^◌, ◌≤◌, ◌<◌}
 use mathlib.Core.Path.{◌≡◌}
 use mathlib.Core.List.{List, []}
 use mathlib.Core.Bool.{Bool, true, false}
-use mathlib.Core.Option.{Option, none, some}
 use native.Mathlib.Omega.{arith}
 use lib.ListN.{length, take, length-append}
 use Rattle.varint.specs.Varint.{delimited}
@@ -38,15 +38,15 @@ module _ (n : ℕ) (tag : n < 16) where
 
   pub number : (v : Option ℕ) → length (written uint32 n v) ≤ 11
   unfolding written if_any
-  number none = omega arith
-  number (some v) = numbered v
+  number None = omega arith
+  number (Some v) = numbered v
 
-  pub flag : (b : Bool) → length (written bool n (some b)) ≤ 11
+  pub flag : (b : Bool) → length (written bool n (Some b)) ≤ 11
   unfolding written if_any
   flag b = numbered (flag_number b)
 
   module _ (k : ℕ) (b : k < 2 ^ 14) where
-    pub held : (bs : List ℕ) → length bs ≤ k → length (written bytes n (some bs)) ≤ 3 + k
+    pub held : (bs : List ℕ) → length bs ≤ k → length (written bytes n (Some bs)) ≤ 3 + k
     unfolding written if_any bytes_field
     held bs h = omega (arith, delimited-length (n * 8 + 2) bs, varint-1 (n * 8 + 2) (omega arith), varint-2 (length bs) (omega arith))
 
@@ -62,19 +62,19 @@ module _ (n : ℕ) (tag : n < 16) where
 
 -- what is not there takes nothing
 module _ (n : ℕ) where
-  pub no_number : length (written uint32 n none) ≤ 0
+  pub no_number : length (written uint32 n None) ≤ 0
   unfolding written if_any
   no_number = omega arith
 
-  pub no_flag : length (written bool n none) ≤ 0
+  pub no_flag : length (written bool n None) ≤ 0
   unfolding written if_any
   no_flag = omega arith
 
-  pub no_bytes : length (written bytes n none) ≤ 0
+  pub no_bytes : length (written bytes n None) ≤ 0
   unfolding written if_any
   no_bytes = omega arith
 
-  pub no-string : length (written string n none) ≤ 0
+  pub no-string : length (written string n None) ≤ 0
   unfolding written if_any
   no-string = omega arith
 
@@ -82,6 +82,6 @@ module _ (n : ℕ) where
   unfolding written each
   no-strings = omega arith
 
-  pub no-message : (T : Table) → length (written (message T) n none) ≤ 0
+  pub no-message : (T : Table) → length (written (message T) n None) ≤ 0
   unfolding written if_any
   no-message T = omega arith

@@ -1,9 +1,9 @@
 -- What the walk over a message finds tells the values that its table reads.
+use Rattle.std.specs.Prelude.{None, Option, Some}
 use Prim.Native.Nat.{ℕ, zero, suc, ◌+◌, ◌-◌, ◌≤◌, ◌<◌}
 use mathlib.Core.Path.{◌≡◌, refl, sym, ap, ◌∙◌, subst}
 use mathlib.Core.List.{List, [], ◌∷◌, ◌++◌, map, map-map, append-nil, append_assoc}
 use mathlib.Core.Bool.{Bool, true, false, ◌&&◌}
-use mathlib.Core.Option.{Option, none, some}
 use native.Mathlib.Omega.{arith}
 use borrow.Author.Tests.{ltb-true, ltb-false, eqb-true, eq-eqb, ne_eqb}
 use lib.Dec.{eqb, ltb}
@@ -60,20 +60,20 @@ alike-more n w l f = alike-append n w l (f ∷ []) ∙ go (eqb f.number n) (eqb 
     go true false = append-nil (alike n w l)
     go false u = append-nil (alike n w l)
 
-last_more : {A : Type 0} (g : Content → A) (v : Option A) (l : List Content) (f : Content) → last_one g v (l ++ (f ∷ [])) ≡ some (g f)
+last_more : {A : Type 0} (g : Content → A) (v : Option A) (l : List Content) (f : Content) → last_one g v (l ++ (f ∷ [])) ≡ Some (g f)
 unfolding last_one
 last_more g v [] f = refl
-last_more g v (h ∷ l) f = last_more g (some (g h)) l f
+last_more g v (h ∷ l) f = last_more g (Some (g h)) l f
 
 merged-more : (l : List Content) (f : Content) → merged (l ++ (f ∷ [])) ≡ merged l ++ contents f.bytes
 unfolding merged
 merged-more [] f = append-nil (contents f.bytes)
 merged-more (h ∷ l) f = rw (merged-more l f) (sym (append_assoc (contents h.bytes) (merged l) (contents f.bytes)))
 
-where-more : {A : Type 0} (read : List Content → A) (l : List Content) (f : Content) → where_any read (l ++ (f ∷ [])) ≡ some (read (merged l ++ contents f.bytes))
+where-more : {A : Type 0} (read : List Content → A) (l : List Content) (f : Content) → where_any read (l ++ (f ∷ [])) ≡ Some (read (merged l ++ contents f.bytes))
 unfolding where_any
-where-more read [] f = ap (λ (x : List Content). some (read x)) (merged-more [] f)
-where-more read (h ∷ l) f = ap (λ (x : List Content). some (read x)) (merged-more (h ∷ l) f)
+where-more read [] f = ap (λ (x : List Content). Some (read x)) (merged-more [] f)
+where-more read (h ∷ l) f = ap (λ (x : List Content). Some (read x)) (merged-more (h ∷ l) f)
 
 counted-more : {A : Type 0} (g : Content → A) (l : List Content) (f : Content) (c : ℕ) → c ≡ counted (length (map g l))
     → count_more c ≡ counted (length (map g (l ++ (f ∷ []))))
@@ -97,10 +97,10 @@ more-some n = ne_eqb (count_more n) 0 (let h = more-positive n in omega arith)
 
 -- a row's value by the fields that count for it
 unfoldable valued : (k : Kind) → List Content → Value k
-valued uint32 l = last_one as_number none l
-valued bool l = last_one as_flag none l
-valued bytes l = last_one as_bytes none l
-valued string l = last_one as_bytes none l
+valued uint32 l = last_one as_number None l
+valued bool l = last_one as_flag None l
+valued bytes l = last_one as_bytes None l
+valued string l = last_one as_bytes None l
 valued strings l = map as_bytes l
 valued (message T) l = where_any (values_of T) l
 valued (messages T) l = map (λ (f : Content). values_of T (contents f.bytes)) l
@@ -179,10 +179,10 @@ module _ (s : List ℕ) where
 
     kind-tells : (k : Kind) (c : Cell × Held k) (p : Placed) → In s p → (l : List Content) → p.content.wire ≡ wire_of_kind k → Tells s k c (valued k l)
         → Tells s k (cell_with c.0 p, held_with k c.1 p) (valued k (l ++ (p.content ∷ [])))
-    kind-tells uint32 c p i l w h = rw (last_more as_number none l p.content, more-some c.0.count, eq-eqb p.content.wire 0 w)
-    kind-tells bool c p i l w h = rw (last_more as_flag none l p.content, more-some c.0.count, eq-eqb p.content.wire 0 w)
-    kind-tells bytes c p i l w h = rw (last_more as_bytes none l p.content, more-some c.0.count, ne_eqb p.content.wire 0 (omega arith)) (ap some i)
-    kind-tells string c p i l w h = rw (last_more as_bytes none l p.content, more-some c.0.count, ne_eqb p.content.wire 0 (omega arith)) (ap some i)
+    kind-tells uint32 c p i l w h = rw (last_more as_number None l p.content, more-some c.0.count, eq-eqb p.content.wire 0 w)
+    kind-tells bool c p i l w h = rw (last_more as_flag None l p.content, more-some c.0.count, eq-eqb p.content.wire 0 w)
+    kind-tells bytes c p i l w h = rw (last_more as_bytes None l p.content, more-some c.0.count, ne_eqb p.content.wire 0 (omega arith)) (ap Some i)
+    kind-tells string c p i l w h = rw (last_more as_bytes None l p.content, more-some c.0.count, ne_eqb p.content.wire 0 (omega arith)) (ap Some i)
     kind-tells strings c p i l w h = counted-more as_bytes l p.content c.0.count h
     kind-tells (message T) c p i l w h =
         rw (where-more (values_of T) l p.content)

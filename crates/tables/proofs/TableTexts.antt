@@ -1,9 +1,9 @@
 -- The strings of a value that can be read are text.
+use Rattle.std.specs.Prelude.{None, Option, Some}
 use Prim.Native.Nat.{ℕ, zero, suc, ◌<◌}
 use mathlib.Core.Path.{◌≡◌, sym}
 use mathlib.Core.List.{List, [], ◌∷◌}
 use mathlib.Core.Bool.{Bool, true, true≢false}
-use mathlib.Core.Option.{Option, none, some}
 use native.Mathlib.Omega.{arith}
 use borrow.Author.Tests.{eq-eqb, ne_eqb, eqb-true}
 use lib.Dec.{eqb}
@@ -49,7 +49,7 @@ Texted f = IsText f.bytes
 last-text : (v : Option (List ℕ)) (fs : List Content) → IfAny IsText v → Each Texted fs → IfAny IsText (last_one as_bytes v fs)
 unfolding last_one
 last-text v [] x h = x
-last-text v (f ∷ fs) x h = last-text (some f.bytes) fs h.0 h.1
+last-text v (f ∷ fs) x h = last-text (Some f.bytes) fs h.0 h.1
 
 -- what is told of a field with the wire type of bytes, by what it holds
 wired : (f : Content) (x : Bool) → f.wire ≡ 2 → pick (eqb f.wire 2) x true ≡ true → x ≡ true
@@ -102,7 +102,7 @@ mutual
   kind-texts bytes d n fs o h = tt
   kind-texts string d n fs o h =
       let l = alike n 2 fs in
-      last-text none l tt
+      last-text None l tt
       (each-so (Kept d string) Texted (λ f x. wired f (is_utf8 f.bytes) x.0 x.1) l (alike-kept d string n fs h))
   kind-texts strings d n fs o h =
       let l = alike n 2 fs in

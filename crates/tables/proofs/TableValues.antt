@@ -1,9 +1,9 @@
 -- Reading by a table gives back the values that were written.
+use Rattle.std.specs.Prelude.{None, Some}
 use Prim.Native.Nat.{ℕ, ◌≤◌}
 use mathlib.Core.Path.{◌≡◌, refl, sym, ap, ap₂, ◌∙◌}
 use mathlib.Core.List.{List, [], ◌∷◌, ◌++◌, map, append-nil, append_assoc}
 use mathlib.Core.Bool.{Bool, true, false}
-use mathlib.Core.Option.{none, some}
 use native.Mathlib.Omega.{arith}
 use borrow.Author.Tests.{eq-eqb, ne_eqb}
 use lib.Dec.{eqb}
@@ -67,20 +67,20 @@ mutual
   unfolding value_of kind_fields fields_in alike last_one where_any merged
 
   value-back : (k : Kind) (n : ℕ) (v : Value k) → FitRow n k v → value_of k n (kind_fields k n v) ≡ v
-  value-back uint32 n none w = refl
-  value-back uint32 n (some x) w = rw (eq-eqb n n refl) (ap some (omega arith))
-  value-back bool n none w = refl
-  value-back bool n (some true) w = rw (eq-eqb n n refl)
-  value-back bool n (some false) w = rw (eq-eqb n n refl)
-  value-back bytes n none w = refl
-  value-back bytes n (some bs) w = rw (eq-eqb n n refl)
-  value-back string n none w = refl
-  value-back string n (some bs) w = rw (eq-eqb n n refl)
+  value-back uint32 n None w = refl
+  value-back uint32 n (Some x) w = rw (eq-eqb n n refl) (ap Some (omega arith))
+  value-back bool n None w = refl
+  value-back bool n (Some true) w = rw (eq-eqb n n refl)
+  value-back bool n (Some false) w = rw (eq-eqb n n refl)
+  value-back bytes n None w = refl
+  value-back bytes n (Some bs) w = rw (eq-eqb n n refl)
+  value-back string n None w = refl
+  value-back string n (Some bs) w = rw (eq-eqb n n refl)
   value-back strings n v w = each_back n (λ (bs : List ℕ). bs) as_bytes v (each_all _ (λ bs. refl) v)
-  value-back (message T) n none w = refl
-  value-back (message T) n (some m) w =
+  value-back (message T) n None w = refl
+  value-back (message T) n (Some m) w =
       rw (eq-eqb n n refl, append-nil (contents (write_by T m)))
-      (ap some (nested-back T m (held_fits w) (values-back T 0 [] m (held_fits w) tt)))
+      (ap Some (nested-back T m (held_fits w) (values-back T 0 [] m (held_fits w) tt)))
   value-back (messages T) n v w =
       each_back n (write_by T) (λ (f : Content). values_of T (contents f.bytes)) v
       (each-so (Fit 0 T) (λ (m : Values T). values_of T (contents (write_by T m)) ≡ m) (λ m f. nested-back T m f (values-back T 0 [] m f tt)) v (each_fits n T v w))

@@ -12,6 +12,7 @@ use lib.Seq.{take_at, drop_at, get_or_at, set_at, get_or-append_seam, get_or-app
 use Rattle.buffer.specs.Pick.{pick}
 use Rattle.buffer.specs.Walk.{walk}
 use Rattle.protobuf.specs.Field.{fields, bytes_of}
+use Rattle.message.proofs.RowLaws.{row_found}
 use Rattle.message.specs.Read.{wire_of, row_step, first_row, row_in, first_of, noted, unpadded, scanned, plain_read, held_read, known_read, field_read, read_all}
 use Rattle.message.specs.Read.{joined, message_read, read_into}
 use Rattle.utf8.specs.Utf8.{is_utf8}
@@ -21,7 +22,6 @@ use Rattle.tables.specs.Found.{kind_number, wire_of_kind, held_rows, rows_of, Ce
 use Rattle.tables.specs.Found.{each_in, held_with, found_with, found_in, held_cells, cells_of, reading_of}
 use Rattle.tables.specs.Statements.{OrderedKind, Ordered, kind_levels, levels}
 use Rattle.protobuf.specs.declared.Field.{Field}
-use Rattle.message.specs.declared.Known.TheVariants.{Row as Knows}
 use Rattle.message.specs.declared.Reading.{Reading}
 use Rattle.buffer.proofs.Tests.{split}
 use Rattle.tables.proofs.TableReadable.{levels-some}
@@ -166,7 +166,7 @@ module _ (d : ℕ) (ih : Walks d) where
       -- a field, by the row of its number
       this-row : (k : Kind) (x : Cell × Held k) → OrderedKind k → kind_levels k ≤ d
           → known_read (message_read d) (front ++ row_with n k rest) (cfront ++ cells_with k x crest) base s f
-          (Knows (kind_number k) (length front) (length front + 3 + length (held_rows k)))
+          (row_found n (kind_number k) (length front) (length front + 3 + length (held_rows k)))
           ≡ scanned (told_of d k (content_of s f))
           (cfront ++ cells_with k (pick (eqb f.wire (wire_of_kind k)) (cell_with x.0 (placed_at base s f), held_with k x.1 (placed_at base s f)) x) crest)
       unfolding known_read

@@ -1,14 +1,12 @@
 -- What the walk over a message finds, by the rows of its table; and tables as lists of numbers, which is how the code has them.
-use Rattle.std.specs.Prelude.{ℕ, ◌+◌, List, [], ◌∷◌, ◌++◌, map, Bool, ◌&&◌, length, eqb}
+use Rattle.std.specs.Prelude.{ℕ, ◌+◌, List, [], ◌∷◌, ◌++◌, map, Bool, ◌&&◌, length, eqb, Option}
 use Rattle.buffer.specs.Pick.{pick}
 use Rattle.protobuf.specs.Field.{fields}
 use Rattle.message.specs.Read.{wire_of, count_more, number_of, flag_of, place_of}
-use Rattle.protobuf.specs.declared.Bytes.{Bytes}
 use Rattle.protobuf.specs.declared.Field.{Field}
-use Rattle.protobuf.specs.declared.Flag.{Flag}
-use Rattle.protobuf.specs.declared.Number.{Number}
 use Rattle.message.specs.declared.Reading.{Reading}
 use Rattle.tables.specs.Table.{Kind, uint32, bool, bytes, string, strings, message, messages, Table, end, row, Content, content_of, readable, padded}
+use Rattle.protobuf.specs.declared.Span.{Span}
 
 -- the number of a kind: below 8 a varint, from 11 on what holds messages
 abbrev pub kind_number : Kind → ℕ
@@ -139,13 +137,13 @@ unfoldable mutual
   cells_of (row n k T) g = g.0.0.count ∷ g.0.0.first ∷ g.0.0.stop ∷ (held_cells k g.0.1 ++ cells_of T g.1)
 
 -- what counts of a row
-abbrev pub number_in : Cell → Number
+abbrev pub number_in : Cell → Option ℕ
 number_in c = number_of c.count c.first
 
-abbrev pub flag_in : Cell → Flag
+abbrev pub flag_in : Cell → Option Bool
 flag_in c = flag_of c.count c.first
 
-abbrev pub bytes_in : Cell → Bytes
+abbrev pub bytes_in : Cell → Option Span
 bytes_in c = place_of c.count c.first c.stop
 
 -- what the walk tells of a value as a whole

@@ -1,8 +1,7 @@
 -- What is proved of messages, beyond the functions' contracts.
-use Rattle.std.specs.Prelude.{ℕ, suc, ◌^◌, max, min, ◌≤◌, ◌<◌, ◌≡◌, List, true, false, length}
-use Rattle.std.proofs.Math.Option.{none, some}
+use Rattle.std.specs.Prelude.{ℕ, suc, ◌^◌, max, min, ◌≤◌, ◌<◌, ◌≡◌, List, true, false, length, None, Some}
 use Rattle.protobuf.specs.Each.{IfAny, Each}
-use Rattle.protobuf.specs.Given.{number_given, flag_given, bytes_given}
+use Rattle.protobuf.specs.Given.{bytes_given}
 use Rattle.utf8.specs.Utf8.{IsText}
 use Rattle.message.specs.Read.{read_into, scanned}
 use Rattle.tables.specs.Table.{Kind, uint32, bool, bytes, string, strings, message, messages, Table, end, row, Value, Values, readable, padded, read_by, write_by}
@@ -102,13 +101,13 @@ counted n = min n 4294967295
 
 abbrev mutual
   pub Tells : List ℕ → (k : Kind) → Cell × Held k → Value k → Type 0
-  Tells s uint32 c v = number_given (number_in c.0) ≡ v
-  Tells s bool c v = flag_given (flag_in c.0) ≡ v
+  Tells s uint32 c v = (number_in c.0) ≡ v
+  Tells s bool c v = (flag_in c.0) ≡ v
   Tells s bytes c v = bytes_given s (bytes_in c.0) ≡ v
   Tells s string c v = bytes_given s (bytes_in c.0) ≡ v
   Tells s strings c v = c.0.count ≡ counted (length v)
-  Tells s (message T) c none = (c.0.count ≡ 0) × (c.1 ≡ none_found T)
-  Tells s (message T) c (some m) = (0 < c.0.count) × TellsAll s T c.1 m
+  Tells s (message T) c None = (c.0.count ≡ 0) × (c.1 ≡ none_found T)
+  Tells s (message T) c (Some m) = (0 < c.0.count) × TellsAll s T c.1 m
   Tells s (messages T) c v = c.0.count ≡ counted (length v)
 
   pub TellsAll : List ℕ → (T : Table) → Found T → Values T → Type 0

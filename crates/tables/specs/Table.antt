@@ -1,7 +1,6 @@
 -- Messages by tables: one definition reads by a table of the known fields, one writes by it (document 01, "Records and fields"); padding, document
 -- 02, Q-8; text, Q-5.
-use Rattle.std.specs.Prelude.{ℕ, zero, suc, ◌%◌, ◌^◌, List, [], ◌∷◌, ◌++◌, map, Bool, true, false, not, ◌&&◌, ◌||◌, eqb}
-use Rattle.std.proofs.Math.Option.{Option, none, some}
+use Rattle.std.specs.Prelude.{ℕ, zero, suc, ◌%◌, ◌^◌, List, [], ◌∷◌, ◌++◌, map, Bool, true, false, not, ◌&&◌, ◌||◌, eqb, None, Option, Some}
 use Rattle.buffer.specs.Pick.{pick}
 use Rattle.protobuf.specs.Field.{fields, bytes_of}
 use Rattle.protobuf.specs.Write.{number_field, bytes_field, if_any, each}
@@ -60,7 +59,7 @@ alike n w (f ∷ fs) = pick (eqb f.number n) (pick (eqb f.wire w) (f ∷ alike n
 -- the last one wins
 unfoldable pub last_one : {A : Type 0} → (Content → A) → Option A → List Content → Option A
 last_one g v [] = v
-last_one g v (f ∷ fs) = last_one g (some (g f)) fs
+last_one g v (f ∷ fs) = last_one g (Some (g f)) fs
 
 -- uint32 takes the low 32 bits; a bool is true unless 0
 abbrev pub as_number : Content → ℕ
@@ -78,16 +77,16 @@ merged [] = []
 merged (f ∷ fs) = contents f.bytes ++ merged fs
 
 unfoldable pub where_any : {A : Type 0} → (List Content → A) → List Content → Option A
-where_any read [] = none
-where_any read (f ∷ fs) = some (read (merged (f ∷ fs)))
+where_any read [] = None
+where_any read (f ∷ fs) = Some (read (merged (f ∷ fs)))
 
 unfoldable mutual
   -- a row's value among the fields of a message
   pub value_of : (k : Kind) → ℕ → List Content → Value k
-  value_of uint32 n fs = last_one as_number none (alike n 0 fs)
-  value_of bool n fs = last_one as_flag none (alike n 0 fs)
-  value_of bytes n fs = last_one as_bytes none (alike n 2 fs)
-  value_of string n fs = last_one as_bytes none (alike n 2 fs)
+  value_of uint32 n fs = last_one as_number None (alike n 0 fs)
+  value_of bool n fs = last_one as_flag None (alike n 0 fs)
+  value_of bytes n fs = last_one as_bytes None (alike n 2 fs)
+  value_of string n fs = last_one as_bytes None (alike n 2 fs)
   value_of strings n fs = map as_bytes (alike n 2 fs)
   value_of (message T) n fs = where_any (λ (l : List Content). values_of T l) (alike n 2 fs)
   value_of (messages T) n fs = map (λ (f : Content). values_of T (contents f.bytes)) (alike n 2 fs)

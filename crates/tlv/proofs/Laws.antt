@@ -1,4 +1,5 @@
 -- Laws of a record and of the walk over records, one step each.
+use Rattle.std.specs.Prelude.{None, Option, Some}
 use Prim.Native.Nat.{ℕ, ◌≤◌, ◌<◌}
 use mathlib.Core.Path.{◌≡◌, refl, sym, ap, ◌∙◌}
 use mathlib.Core.List.{List, map}
@@ -7,43 +8,41 @@ use native.Mathlib.Omega.{arith}
 use lib.ListN.{length}
 use Rattle.buffer.specs.Walk.{item, ended, joined}
 use Rattle.buffer.proofs.Walks.{Advances, walk_end, walk_more, walk-unreadable}
-use Rattle.varint.specs.Varint.{varint_at, delimited_at}
-use Rattle.varint.specs.declared.Delimited.{Delimited}
-use Rattle.varint.specs.declared.Delimited.TheVariants.{At, Unreadable as Cut}
-use Rattle.varint.specs.declared.Varint.{Varint}
-use Rattle.varint.specs.declared.Varint.TheVariants.{Number, Unreadable as Unspelt}
+use Rattle.varint.specs.Varint.{varint_at, delimited_at, encloses}
 use Rattle.varint.proofs.Theorems.{inside}
 use Rattle.tlv.specs.Record.{of_value, of_kind, record_at, stepped, record_step, records_from, valued, records, padded_among}
 use Rattle.tlv.specs.declared.Record.{Record}
-use Rattle.tlv.specs.declared.Taken.{Taken}
-use Rattle.tlv.specs.declared.Taken.TheVariants.{Record as Whole, Unreadable}
 use Rattle.varint.proofs.Stretched.{delimited-inside}
+use Rattle.varint.specs.declared.Delimited.{Delimited}
+use Rattle.varint.specs.declared.Varint.{Varint}
 
 -- a record that is taken lies in the slice, after the position
-pub record-inside : (s : List ℕ) (at : ℕ) (r : Record) → record_at s at ≡ Whole r → (at < r.start) × (r.start ≤ r.end) × (r.end ≤ length s)
+pub record-inside : (s : List ℕ) (at : ℕ) (r : Record) → record_at s at ≡ Some r → (at < r.start) × (r.start ≤ r.end) × (r.end ≤ length s)
 unfolding record_at of_kind of_value
 record-inside s at r e = go (varint_at s at) refl e
   where
-    value : (kind : ℕ) (o : Bool) (d : Delimited) → of_value kind o d ≡ Whole r → (p : Bool) × (d ≡ At r.start r.end p)
-    value kind o (At start end p) q = (p, cc)
-    value kind o Cut q = let z : ◌≡◌ {A = ℕ} 0 1 = cc in absurd (omega arith)
+    value : (kind : ℕ) (o : Bool) (d : Option Delimited) → of_value kind o d ≡ Some r → (p : Bool) × (d ≡ encloses r.start r.end p)
+    value kind o (Some x) q =
+        let e : r ≡ record { kind = kind; start = x.start; end = x.end; padded = o || x.padded } = cc in
+        (x.padded, ap (λ (t : Record). encloses t.start t.end x.padded) (sym e))
+    value kind o None q = let z : ◌≡◌ {A = ℕ} 0 1 = cc in absurd (omega arith)
 
-    go : (v : Varint) → varint_at s at ≡ v → of_kind s v ≡ Whole r → (at < r.start) × (r.start ≤ r.end) × (r.end ≤ length s)
-    go (Number kind mid o) p q =
-        let i = inside s at kind mid o p in
-        let h = value kind o (delimited_at s mid) q in
-        let d = delimited-inside s mid r.start r.end h.0 h.1 in
+    go : (v : Option Varint) → varint_at s at ≡ v → of_kind s v ≡ Some r → (at < r.start) × (r.start ≤ r.end) × (r.end ≤ length s)
+    go (Some x) p q =
+        let i = inside s at x.value x.next x.padded p in
+        let h = value x.value x.padded (delimited_at s x.next) q in
+        let d = delimited-inside s x.next r.start r.end h.0 h.1 in
         (omega arith, omega arith, omega arith)
-    go Unspelt p q = let z : ◌≡◌ {A = ℕ} 0 1 = cc in absurd (omega arith)
+    go None p q = let z : ◌≡◌ {A = ℕ} 0 1 = cc in absurd (omega arith)
 
 -- a step of the walk is a record that was taken
-step-taken : (s : List ℕ) (at : ℕ) (r : Record) (next : ℕ) → record_step s at ≡ item r next → (record_at s at ≡ Whole r) × (r.end ≡ next)
+step-taken : (s : List ℕ) (at : ℕ) (r : Record) (next : ℕ) → record_step s at ≡ item r next → (record_at s at ≡ Some r) × (r.end ≡ next)
 unfolding record_step
 step-taken s at r next e = go (record_at s at) refl e
   where
-    go : (t : Taken) → record_at s at ≡ t → stepped t ≡ item r next → (t ≡ Whole r) × (r.end ≡ next)
-    go (Whole x) p q = (cc, cc)
-    go Unreadable p q = let z : ◌≡◌ {A = ℕ} 0 1 = cc in absurd (omega arith)
+    go : (t : Option Record) → record_at s at ≡ t → stepped t ≡ item r next → (t ≡ Some r) × (r.end ≡ next)
+    go (Some x) p q = (cc, cc)
+    go None p q = let z : ◌≡◌ {A = ℕ} 0 1 = cc in absurd (omega arith)
 
 pub advances : Advances record_step
 advances s at r next e =
@@ -56,13 +55,13 @@ pub records-end : (s : List ℕ) (at : ℕ) → length s ≤ at → records_from
 unfolding records_from
 records-end s at h = walk_end record_step s at h
 
-pub records-more : (s : List ℕ) (at : ℕ) (r : Record) → record_at s at ≡ Whole r → records_from s at ≡ joined r (records_from s r.end)
+pub records-more : (s : List ℕ) (at : ℕ) (r : Record) → record_at s at ≡ Some r → records_from s at ≡ joined r (records_from s r.end)
 unfolding records_from record_step
 records-more s at r e =
     let i = record-inside s at r e in
     walk_more record_step advances s at r.end r (omega arith) (ap stepped e)
 
-pub records-unreadable : (s : List ℕ) (at : ℕ) → at < length s → record_at s at ≡ Unreadable → records_from s at ≡ ended false
+pub records-unreadable : (s : List ℕ) (at : ℕ) → at < length s → record_at s at ≡ None → records_from s at ≡ ended false
 unfolding records_from record_step
 records-unreadable s at h e = walk-unreadable record_step s at h (ap stepped e)
 
@@ -80,11 +79,11 @@ module _ (inside : ℕ → List ℕ → Bool) (s : List ℕ) where
     unfolding padded_from padded_among
     padded-end h = sym (inv ∙ rw (records-end s at h) (or-false before))
 
-    pub padded-unreadable : at < length s → record_at s at ≡ Unreadable → before ≡ all
+    pub padded-unreadable : at < length s → record_at s at ≡ None → before ≡ all
     unfolding padded_from padded_among
     padded-unreadable h e = sym (inv ∙ rw (records-unreadable s at h e) (or-false before))
 
-    pub padded-more : (r : Record) {x here next : Bool} → record_at s at ≡ Whole r → x ≡ inside r.kind (valued s r).value → here ≡ (r.padded || x) → next ≡ (before || here)
+    pub padded-more : (r : Record) {x here next : Bool} → record_at s at ≡ Some r → x ≡ inside r.kind (valued s r).value → here ≡ (r.padded || x) → next ≡ (before || here)
         → all ≡ (next || padded_from r.end)
     unfolding padded_from padded_among
     padded-more r e f h k = inv ∙ rw (records-more s at r e, k, h, f) (sym (or_assoc before (r.padded || inside r.kind (valued s r).value) (padded_from r.end)))

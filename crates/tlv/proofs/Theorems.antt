@@ -1,4 +1,5 @@
 -- What `specs/Statements.antt` states of records: the walk over a written payload gives back its records, one at a time.
+use Rattle.std.specs.Prelude.{None, Option, Some}
 use Prim.Native.Nat.{ℕ, ◌+◌, ◌-◌, ◌^◌, ◌<◌}
 use mathlib.Core.Path.{◌≡◌, refl, sym, ap, ap₂, ◌∙◌}
 use mathlib.Core.List.{List, [], ◌∷◌, ◌++◌, map, append_assoc}
@@ -7,20 +8,17 @@ use native.Mathlib.Omega.{arith}
 use lib.ListN.{length, take, drop, length-append}
 use lib.Seq.{take_at, drop_at}
 use Rattle.varint.specs.Before.{number_in, delimited_in}
-use Rattle.varint.specs.Varint.{varint_at, varint, two, delimited, delimited_at}
-use Rattle.varint.specs.declared.Delimited.{Delimited}
-use Rattle.varint.specs.declared.Delimited.TheVariants.{At, Unreadable as Cut}
-use Rattle.varint.specs.declared.Varint.{Varint}
-use Rattle.varint.specs.declared.Varint.TheVariants.{Number, Unreadable as Unspelt}
+use Rattle.varint.specs.Varint.{varint_at, varint, two, delimited, delimited_at, stands}
 use Rattle.varint.proofs.Laws.{two-length, delimited-length}
 use Rattle.varint.proofs.Theorems.{round_trip as varint-round-trip, numbers-stand}
 use Rattle.tlv.specs.Record.{of_value, of_kind, record_at, records_from, Tlv, valued, records, readable, record_bytes, payload}
 use Rattle.tlv.specs.Statements.{Fitting, none, one, shortest, RoundTrip}
 use Rattle.tlv.specs.Before.{value_before, kind_before, record_before, record_in, RecordsStand}
 use Rattle.tlv.specs.declared.Record.{Record}
-use Rattle.tlv.specs.declared.Taken.TheVariants.{Record as Whole}
 use Rattle.varint.proofs.Stretched.{delimited-split, delimited-back}
 use Rattle.tlv.proofs.Laws.{records-end, records-more}
+use Rattle.varint.specs.declared.Delimited.{Delimited}
+use Rattle.varint.specs.declared.Varint.{Varint}
 
 -- where a record written at a position stands
 abbrev pub standing : ℕ → ℕ → List ℕ → Record
@@ -28,15 +26,15 @@ standing at k v = record { kind = k; start = at + length (two k (length v)); end
 
 module _ (s front : List ℕ) (at k : ℕ) (v rest : List ℕ) (e : s ≡ front ++ (record_bytes k v ++ rest)) (p : at ≡ length front) where
   -- a record that was written is taken, wherever it stands
-  pub record-back : k < 2 ^ 64 → length v < 2 ^ 64 → record_at s at ≡ Whole (standing at k v)
+  pub record-back : k < 2 ^ 64 → length v < 2 ^ 64 → record_at s at ≡ Some (standing at k v)
   unfolding record_at of_kind of_value
   record-back hk hv =
       let mid = at + length (varint k) in
       let e' : s ≡ front ++ (varint k ++ (varint (length v) ++ (v ++ rest))) = e ∙ ap (◌++◌ front) (delimited-split k v rest) in
       let q : mid ≡ length (front ++ varint k) = simp length-append (omega arith) in
-      ap (of_kind s) (ap₂ varint_at e' p ∙ varint-round-trip.back front k (varint (length v) ++ (v ++ rest)) hk ∙ ap (λ (n : ℕ). Number k (n + length (varint k)) false) (sym p))
+      ap (of_kind s) (ap₂ varint_at e' p ∙ varint-round-trip.back front k (varint (length v) ++ (v ++ rest)) hk ∙ ap (λ (n : ℕ). stands k (n + length (varint k)) false) (sym p))
       ∙ ap (of_value k false) (delimited-back s (front ++ varint k) v rest mid (e' ∙ sym (append_assoc front (varint k) (varint (length v) ++ (v ++ rest)))) q hv)
-      ∙ ap₂ (λ (start end : ℕ). Whole (record { kind = k; start = start; end = end; padded = false })) (omega (arith, two-length k (length v))) (omega (arith, delimited-length k v))
+      ∙ ap₂ (λ (start end : ℕ). Some (record { kind = k; start = start; end = end; padded = false })) (omega (arith, two-length k (length v))) (omega (arith, delimited-length k v))
 
   -- and has its value
   pub record-value : valued s (standing at k v) ≡ record { kind = k; value = v; padded = false }
@@ -81,15 +79,15 @@ round_trip =
     }
 
 -- what is told of a record is as before, but for `padded`
-value-stands : (kind : ℕ) (p : Bool) (d : Delimited) → record_in (of_value kind p d) ≡ value_before kind (delimited_in d)
+value-stands : (kind : ℕ) (p : Bool) (d : Option Delimited) → record_in (of_value kind p d) ≡ value_before kind (delimited_in d)
 unfolding of_value value_before
-value-stands kind p (At start end o) = refl
-value-stands kind p Cut = refl
+value-stands kind p (Some x) = refl
+value-stands kind p None = refl
 
-kind-stands : (s : List ℕ) (v : Varint) → record_in (of_kind s v) ≡ kind_before s (number_in v)
+kind-stands : (s : List ℕ) (v : Option Varint) → record_in (of_kind s v) ≡ kind_before s (number_in v)
 unfolding of_kind kind_before
-kind-stands s (Number kind mid p) = value-stands kind p (delimited_at s mid) ∙ ap (value_before kind) (numbers-stand.lengths s mid)
-kind-stands s Unspelt = refl
+kind-stands s (Some x) = value-stands x.value x.padded (delimited_at s x.next) ∙ ap (value_before x.value) (numbers-stand.lengths s x.next)
+kind-stands s None = refl
 
 pub records-stand : RecordsStand
 unfolding record_at record_before

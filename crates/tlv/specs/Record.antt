@@ -1,34 +1,30 @@
 -- Records, document 01, "Records and fields": a record is varint type, varint length, value. Document 02, Q-8: padded where its type or its
 -- length is.
-use Rattle.std.specs.Prelude.{ℕ, ◌-◌, List, [], ◌∷◌, ◌++◌, map, Bool, false, ◌||◌, take, drop}
+use Rattle.std.specs.Prelude.{ℕ, ◌-◌, List, [], ◌∷◌, ◌++◌, map, Bool, false, ◌||◌, take, drop, None, Option, Some}
 use Rattle.buffer.specs.Walk.{Step, item, unreadable, Walked, walk}
 use Rattle.varint.specs.Varint.{varint_at, delimited_at, delimited}
-use Rattle.varint.specs.declared.Delimited.{Delimited}
-use Rattle.varint.specs.declared.Delimited.TheVariants.{At, Unreadable as Cut}
-use Rattle.varint.specs.declared.Varint.{Varint}
-use Rattle.varint.specs.declared.Varint.TheVariants.{Number, Unreadable as Unspelt}
 use Rattle.tlv.specs.declared.Record.{Record}
-use Rattle.tlv.specs.declared.Taken.{Taken}
-use Rattle.tlv.specs.declared.Taken.TheVariants.{Record as Whole, Unreadable}
+use Rattle.varint.specs.declared.Delimited.{Delimited}
+use Rattle.varint.specs.declared.Varint.{Varint}
 
 -- the record of a type, where its value stands
-unfoldable pub of_value : ℕ → Bool → Delimited → Taken
-of_value kind padded (At start end padded_length) = Whole (record { kind = kind; start = start; end = end; padded = padded || padded_length })
-of_value kind padded Cut = Unreadable
+unfoldable pub of_value : ℕ → Bool → Option Delimited → Option Record
+of_value kind padded (Some x) = Some (record { kind = kind; start = x.start; end = x.end; padded = padded || x.padded })
+of_value kind padded None = None
 
 -- the same, once its type is read
-unfoldable pub of_kind : List ℕ → Varint → Taken
-of_kind s (Number kind mid padded) = of_value kind padded (delimited_at s mid)
-of_kind s Unspelt = Unreadable
+unfoldable pub of_kind : List ℕ → Option Varint → Option Record
+of_kind s (Some x) = of_value x.value x.padded (delimited_at s x.next)
+of_kind s None = None
 
 -- the record at a position of a payload
-unfoldable pub record_at : List ℕ → ℕ → Taken
+unfoldable pub record_at : List ℕ → ℕ → Option Record
 record_at s at = of_kind s (varint_at s at)
 
 -- a record's step of the walk: the next one begins where its value ends
-abbrev pub stepped : Taken → Step Record
-stepped (Whole r) = item r r.end
-stepped Unreadable = unreadable
+abbrev pub stepped : Option Record → Step Record
+stepped (Some r) = item r r.end
+stepped None = unreadable
 
 unfoldable pub record_step : List ℕ → ℕ → Step Record
 record_step s at = stepped (record_at s at)

@@ -19,13 +19,6 @@ pub struct Record {
     pub padded: bool,
 }
 
-// What stands at a position.
-#[derive(Clone, Copy)]
-pub enum Taken {
-    Record(Record),
-    Unreadable,
-}
-
 // Appends a whole record.
 pub fn put(out: &mut [u8], at: usize, kind: u64, value: &[u8]) -> usize
     ensures { Put out.old at (record_bytes kind value.now) out.new result }

@@ -2,8 +2,7 @@
 ghost use Rattle.std.specs.Prelude.{◌≡◌};
 ghost use Rattle.tlv.specs.Record.{record_at};
 
-use crate::{Record, Taken};
-use varint::{Delimited, Varint};
+use crate::Record;
 
 // A payload that was lent, and where a walk over it stands.
 #[derive(Clone, Copy)]
@@ -12,21 +11,17 @@ pub struct Reader<'a> {
     pub at: usize,
 }
 
-// The record at a position of a payload.
-fn record_at(s: &[u8], at: usize) -> Taken
+// The record at a position of a payload, if one can be read there.
+fn record_at(s: &[u8], at: usize) -> Option<Record>
     ensures { result ≡ record_at s.now at }
 {
-    let Varint::Number(kind, mid, padded_kind) = varint::read(s, at) else {
-        return Taken::Unreadable;
-    };
-    let Delimited::At(start, end, padded_len) = varint::read_delimited(s, mid) else {
-        return Taken::Unreadable;
-    };
-    Taken::Record(Record {
-        kind,
-        start,
-        end,
-        padded: buffer::either(padded_kind, padded_len),
+    let kind = varint::read(s, at)?;
+    let value = varint::read_delimited(s, kind.next)?;
+    Some(Record {
+        kind: kind.value,
+        start: value.start,
+        end: value.end,
+        padded: buffer::either(kind.padded, value.padded),
     })
 }
 
@@ -38,14 +33,14 @@ fn reader_at<'a>(payload: &'a [u8], at: usize) -> Reader<'a>
 }
 
 // The record that stands where the reader is.
-fn next<'a>(r: Reader<'a>) -> Taken
+fn next<'a>(r: Reader<'a>) -> Option<Record>
     ensures { result ≡ record_at r.entry.payload.now r.entry.at }
 {
     record_at(r.payload, r.at)
 }
 
 // The record at a position of a payload, taken by a reader: what every walk over a payload calls.
-pub fn take_record(payload: &[u8], at: usize) -> Taken
+pub fn take_record(payload: &[u8], at: usize) -> Option<Record>
     ensures { result ≡ record_at payload.now at }
 {
     next(reader_at(payload, at))

@@ -1,4 +1,5 @@
 -- Laws of taking blocks: what each step of the code says of the definitions.
+use Rattle.std.specs.Prelude.{None, Some}
 use Rattle.std.proofs.Common.{◌≡◌, ℕ, ◌-◌, ◌*◌, ◌<◌, ◌≤◌, Bool, true, false, eqb, ltb, List, length, take, drop, sym, refl, ap, ◌∙◌, ltb-true, le-ltb, lt-ltb, eqb-true}
 use lib.Seq.{sets}
 use Rattle.buffer.proofs.Tests.{both}
@@ -6,11 +7,10 @@ use Rattle.buffer.specs.Pick.{pick}
 use Rattle.decode_image.specs.declared.Block.{Block}
 use Rattle.csmp.specs.declared.Image.{Image}
 use Rattle.csmp.specs.Values.{field_is}
-use Rattle.protobuf.specs.declared.Bytes.TheVariants.{At, Absent}
-use Rattle.protobuf.specs.declared.Number.TheVariants.{Given, Absent as NoNumber}
 use Rattle.transfer.specs.Bitmap.{held, marked, one_more, with_held}
 use Rattle.transfer.specs.Block.{fits_in, fits_at, Flash, put_block, take_of, Parts, Left}
 use Rattle.transfer.specs.Blocks.{blocks, block_length}
+use Rattle.protobuf.specs.Given.{spanning}
 
 -- a number beyond the blocks does not fit, and another fits by its length
 module _ (size each n len : ℕ) where
@@ -87,12 +87,12 @@ module _ (i : Image) (bs : List ℕ) {size each number : ℕ} {map : List ℕ} (
     left_other h = left_by (rw (hash-parts ∙ h) unchanged)
 
     module _ (h : field_is hash v false b.hash ≡ true) where
-      pub left-numberless : b.number ≡ NoNumber → Left (take_of i bs v b) (with_held i map number) bs
+      pub left-numberless : b.number ≡ None → Left (take_of i bs v b) (with_held i map number) bs
       left-numberless g = left_by (rw (hash-parts ∙ h, g) unchanged)
 
-      pub left-dataless : {n : ℕ} → b.number ≡ Given n → b.«data» ≡ Absent → Left (take_of i bs v b) (with_held i map number) bs
+      pub left-dataless : {n : ℕ} → b.number ≡ Some n → b.«data» ≡ None → Left (take_of i bs v b) (with_held i map number) bs
       left-dataless g k = left_by (rw (hash-parts ∙ h, g, k) unchanged)
 
-      pub left-this : {n start stop : ℕ} {d after : List ℕ} {image : Image} → b.number ≡ Given n → b.«data» ≡ At start stop
+      pub left-this : {n start stop : ℕ} {d after : List ℕ} {image : Image} → b.number ≡ Some n → b.«data» ≡ spanning start stop
           → d ≡ take (stop - start) (drop start v) → Left (put_block i bs n d) image after → Left (take_of i bs v b) image after
       left-this g k f l = rw (hash-parts ∙ h, g, k, ← f) l

@@ -1,6 +1,6 @@
 -- What blocks put one after the other leave.
+use Rattle.std.specs.Prelude.{None, Option, Some}
 use Rattle.std.proofs.Common.{◌≡◌, ℕ, zero, suc, ◌+◌, ◌*◌, ◌<◌, ◌≤◌, Bool, true, false, ◌&&◌, ◌||◌, eqb, ltb, List, [], ◌∷◌, length, take, drop, sym, refl, ap, ◌∙◌, subst, true≢false, mul-le-mul_right, suc-mul, arith, ltb-false, ltb-true, eq-eqb, eqb-true}
-use mathlib.Core.Option.{Option, none, some, some-injective, some-ne-none, none-ne-some}
 use borrow.Author.Tests.{eqb-false}
 use lib.Seq.{sets}
 use Rattle.buffer.proofs.Tests.{split, both}
@@ -43,7 +43,7 @@ module _ (i : Image) (m : ℕ) (o : Offer) where
       (λ h. split (eqb m o.number) (λ e. f (eqb-true m o.number e) h) (λ e. g (λ k p. eqb-false m o.number e p)))
       (λ h. g (λ k p. true≢false (sym k ∙ h)))
 
-  came-this : (os : List Offer) → m ≡ o.number → fits_at i o.number (length o.bytes) ≡ true → came i m (o ∷ os) ≡ some o.bytes
+  came-this : (os : List Offer) → m ≡ o.number → fits_at i o.number (length o.bytes) ≡ true → came i m (o ∷ os) ≡ Some o.bytes
   unfolding came
   came-this os e h = rw (e, eq-eqb o.number o.number refl, h)
 
@@ -116,9 +116,9 @@ module _ (i : Image) (bs : List ℕ) (n : ℕ) (d : List ℕ) where
 record Parts (f : Flash) (os : List Offer) (e : Flash) : Type 0 where
   kept : (n : ℕ) → held f.image.bitmap n ≡ true
       → (held e.image.bitmap n ≡ true) × (block_at f.image e.bytes n ≡ block_at f.image f.bytes n)
-  new : (n : ℕ) (bs : List ℕ) → held f.image.bitmap n ≡ false → came f.image n os ≡ some bs
+  new : (n : ℕ) (bs : List ℕ) → held f.image.bitmap n ≡ false → came f.image n os ≡ Some bs
       → (held e.image.bitmap n ≡ true) × (block_at f.image e.bytes n ≡ bs)
-  missing : (n : ℕ) → held f.image.bitmap n ≡ false → came f.image n os ≡ none
+  missing : (n : ℕ) → held f.image.bitmap n ≡ false → came f.image n os ≡ None
       → (held e.image.bitmap n ≡ false) × (block_at f.image e.bytes n ≡ block_at f.image f.bytes n)
   image : e.image ≡ with_held f.image e.image.bitmap e.image.held
   behind : drop f.image.size e.bytes ≡ drop f.image.size f.bytes
@@ -129,7 +129,7 @@ unfolding came
 parts_none f =
     record {
       kept = λ n h. (h, refl);
-      new = λ n bs h c. absurd (none-ne-some bs c);
+      new = λ n bs h c. let z : ◌≡◌ {A = ℕ} 0 1 = cc in absurd (omega arith);
       missing = λ n h c. (h, refl);
       image = refl;
       behind = refl;
@@ -166,15 +166,16 @@ parts_more f o os e s r = record { kept = kept; new = new; missing = missing; im
         let q = r.kept m p.0 in
         (q.0, through m q.1 ∙ p.1)
 
-    brought : (m : ℕ) (bs : List ℕ) → held i.bitmap m ≡ false → came i m (o ∷ os) ≡ some bs → m ≡ n → fits_at i n (length d) ≡ true
+    brought : (m : ℕ) (bs : List ℕ) → held i.bitmap m ≡ false → came i m (o ∷ os) ≡ Some bs → m ≡ n → fits_at i n (length d) ≡ true
         → (held e.image.bitmap m ≡ true) × (block_at i e.bytes m ≡ bs)
     brought m bs h c w t =
-        let b = some-injective d bs (sym (came-this i m o os w t) ∙ c) in
+        let y = sym (came-this i m o os w t) ∙ c in
+        let b : d ≡ bs = cc in
         let p = put-brings i f.bytes n d s (rw (← w) h) t in
         let q = r.kept m (rw w p.0) in
         (q.0, through m q.1 ∙ ap (block_at i g.bytes) w ∙ p.1 ∙ b)
 
-    new : (m : ℕ) (bs : List ℕ) → held i.bitmap m ≡ false → came i m (o ∷ os) ≡ some bs
+    new : (m : ℕ) (bs : List ℕ) → held i.bitmap m ≡ false → came i m (o ∷ os) ≡ Some bs
         → (held e.image.bitmap m ≡ true) × (block_at i e.bytes m ≡ bs)
     new m bs h c =
         this i m o (brought m bs h c)
@@ -182,10 +183,10 @@ parts_more f o os e s r = record { kept = kept; new = new; missing = missing; im
         let q = r.new m bs (p.0 ∙ h) (put-came i f.bytes n d m os ∙ sym (came-not i m o os k) ∙ c) in
         (q.0, to m bs q.1))
 
-    missing : (m : ℕ) → held i.bitmap m ≡ false → came i m (o ∷ os) ≡ none
+    missing : (m : ℕ) → held i.bitmap m ≡ false → came i m (o ∷ os) ≡ None
         → (held e.image.bitmap m ≡ false) × (block_at i e.bytes m ≡ block_at i f.bytes m)
     missing m h c =
-        this i m o (λ w t. absurd (some-ne-none d (sym (came-this i m o os w t) ∙ c)))
+        this i m o (λ w t. let y = sym (came-this i m o os w t) ∙ c in let z : ◌≡◌ {A = ℕ} 0 1 = cc in absurd (omega arith))
         (λ k. let p = put_other i f.bytes n d m k in
         let q = r.missing m (p.0 ∙ h) (put-came i f.bytes n d m os ∙ sym (came-not i m o os k) ∙ c) in
         (q.0, through m q.1 ∙ p.1))
@@ -210,9 +211,9 @@ sound-all f (o ∷ os) s =
     sound-all (put_block f.image f.bytes o.number o.bytes) os (sound-put f.image f.bytes o.number o.bytes s)
 
 -- whether a block came
-cases : {X : Type 0} {A : Type 0} (c : Option A) → (c ≡ none → X) → ((a : A) → c ≡ some a → X) → X
-cases none f g = f refl
-cases (some a) f g = g a refl
+cases : {X : Type 0} {A : Type 0} (c : Option A) → (c ≡ None → X) → ((a : A) → c ≡ Some a → X) → X
+cases None f g = f refl
+cases (Some a) f g = g a refl
 
 -- complete exactly when every number was held or came
 module _ (f : Flash) (os : List Offer) (e : Flash) (c : Counted e.image) (r : Parts f os e) where

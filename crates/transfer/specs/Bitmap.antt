@@ -1,6 +1,6 @@
 -- The bitmap, document 01, "Transfer": block 0 is the top bit of the first byte; ceil(blocks/8) bytes; spare bits 0. Beside it, document
 -- 02, Q-2: the number of blocks held.
-use Rattle.std.specs.Prelude.{◌≡◌, ℕ, zero, suc, ◌+◌, ◌-◌, ◌*◌, ◌/◌, ◌%◌, ◌^◌, ◌≤◌, Bool, true, false, List, set, ◌==◌, nat_lt, slice_index, slice_set}
+use Rattle.std.specs.Prelude.{◌≡◌, ℕ, zero, suc, ◌+◌, ◌-◌, ◌*◌, ◌/◌, ◌%◌, ◌^◌, ◌≤◌, Bool, true, false, List, ◌==◌, nat_lt, slice_index, slice_set}
 use Rattle.buffer.specs.Pick.{pick}
 use Rattle.csmp.specs.declared.Image.{Image}
 use Rattle.transfer.specs.Blocks.{blocks}

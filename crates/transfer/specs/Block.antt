@@ -1,13 +1,12 @@
 -- Taking blocks, document 01, "Transfer", record 67.
-use Rattle.std.specs.Prelude.{◌≡◌, ℕ, ◌*◌, ◌≤◌, Bool, false, ◌&&◌, List, length, ◌==◌, nat_lt}
-use Rattle.std.proofs.Math.Option.{Option, none, some}
+use Rattle.std.specs.Prelude.{◌≡◌, ℕ, ◌*◌, ◌≤◌, Bool, false, ◌&&◌, List, length, ◌==◌, nat_lt, None, Option, Some}
 use Rattle.std.proofs.lemmas.List.Edits.{sets}
 use Rattle.buffer.specs.Pick.{pick}
 use Rattle.decode_image.specs.Read.{block_of}
 use Rattle.decode_image.specs.declared.Block.{Block}
 use Rattle.csmp.specs.Values.{field_is}
 use Rattle.csmp.specs.declared.Image.{Image}
-use Rattle.protobuf.specs.Given.{number_given, bytes_given}
+use Rattle.protobuf.specs.Given.{bytes_given}
 use Rattle.transfer.specs.Blocks.{blocks, block_length}
 use Rattle.transfer.specs.Bitmap.{held, marked, one_more, Counted, with_held}
 
@@ -45,19 +44,19 @@ pub record Offer : Type 0 where
   pub bytes : List ℕ
 
 abbrev pub offer_of : Option ℕ → Option (List ℕ) → Option Offer
-offer_of none d = none
-offer_of (some n) none = none
-offer_of (some n) (some bs) = some (record { number = n; bytes = bs })
+offer_of None d = None
+offer_of (Some n) None = None
+offer_of (Some n) (Some bs) = Some (record { number = n; bytes = bs })
 
 abbrev pub offered_by : Image → List ℕ → Block → Option Offer
-offered_by i v b = pick (field_is i.hash v false b.hash) (offer_of (number_given b.number) (bytes_given v b.«data»)) none
+offered_by i v b = pick (field_is i.hash v false b.hash) (offer_of b.number (bytes_given v b.«data»)) None
 
 unfoldable pub offered : Image → List ℕ → Option Offer
 offered i v = offered_by i v (block_of v)
 
 abbrev pub put_offer : Image → List ℕ → Option Offer → Flash
-put_offer i bs none = record { image = i; bytes = bs }
-put_offer i bs (some o) = put_block i bs o.number o.bytes
+put_offer i bs None = record { image = i; bytes = bs }
+put_offer i bs (Some o) = put_block i bs o.number o.bytes
 
 -- an ImageBlock's value, and what it says
 abbrev pub take_of : Image → List ℕ → List ℕ → Block → Flash

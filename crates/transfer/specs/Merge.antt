@@ -1,6 +1,5 @@
 -- Merges of two feeds of blocks, document 01, "Transfer": each of both once, each feed's in order.
-use Rattle.std.specs.Prelude.{◌≡◌, ℕ, ◌*◌, ◌<◌, Bool, true, false, ◌&&◌, ◌||◌, List, [], ◌∷◌, length, take, drop, ◌==◌}
-use Rattle.std.proofs.Math.Option.{Option, none as nothing, some}
+use Rattle.std.specs.Prelude.{◌≡◌, ℕ, ◌*◌, ◌<◌, Bool, true, false, ◌&&◌, ◌||◌, List, [], ◌∷◌, length, take, drop, ◌==◌, None, Option, Some}
 use Rattle.buffer.specs.Pick.{pick}
 use Rattle.csmp.specs.declared.Image.{Image}
 use Rattle.protobuf.specs.Each.{Each}
@@ -39,21 +38,21 @@ block_at i bs n = take (block_length i.size i.block_size n) (drop (n * i.block_s
 
 -- the bytes of the first block of number n that fits, if one came
 unfoldable pub came : Image → ℕ → List Offer → Option (List ℕ)
-came i n [] = nothing
-came i n (o ∷ os) = pick (o.number == n && fits_at i n (length o.bytes)) (some o.bytes) (came i n os)
+came i n [] = None
+came i n (o ∷ os) = pick (o.number == n && fits_at i n (length o.bytes)) (Some o.bytes) (came i n os)
 
 abbrev pub is_some : {A : Type 0} → Option A → Bool
-is_some nothing = false
-is_some (some a) = true
+is_some None = false
+is_some (Some a) = true
 
 -- what blocks put one after the other leave: held blocks are kept, new ones are in place with their bit, the number held moves with the
 -- bits, all else is as it was, and the image is complete exactly when every block number was held or came
 pub record Ended (f : Flash) (os : List Offer) (e : Flash) : Type 0 where
   pub kept : (n : ℕ) → held f.image.bitmap n ≡ true
       → (held e.image.bitmap n ≡ true) × (block_at f.image e.bytes n ≡ block_at f.image f.bytes n)
-  pub new : (n : ℕ) (bs : List ℕ) → held f.image.bitmap n ≡ false → came f.image n os ≡ some bs
+  pub new : (n : ℕ) (bs : List ℕ) → held f.image.bitmap n ≡ false → came f.image n os ≡ Some bs
       → (held e.image.bitmap n ≡ true) × (block_at f.image e.bytes n ≡ bs)
-  pub missing : (n : ℕ) → held f.image.bitmap n ≡ false → came f.image n os ≡ nothing
+  pub missing : (n : ℕ) → held f.image.bitmap n ≡ false → came f.image n os ≡ None
       → (held e.image.bitmap n ≡ false) × (block_at f.image e.bytes n ≡ block_at f.image f.bytes n)
   pub number : CountsOnes e.image
   pub image : e.image ≡ with_held f.image e.image.bitmap e.image.held

@@ -7,7 +7,7 @@ ghost use Rattle.transfer.specs.Block.{fits_in, put_block, take_of, Parts, Left}
 
 use crate::bitmap;
 use decode_image::Block;
-use protobuf::{Bytes, Number};
+use protobuf::Span;
 
 // The block copier: writes a block at the front of the part of the buffer that begins where the block starts.
 fn copy_block(flash: &mut [u8], start: usize, bytes: &[u8])
@@ -71,11 +71,11 @@ pub fn take_block(
         return held;
     }
     let number = block.number;
-    let Number::Given(n) = number else {
+    let Some(n) = number else {
         return held;
     };
     let place = block.data;
-    let Bytes::At(start, end) = place else {
+    let Some(Span { start, end }) = place else {
         return held;
     };
     put_block(

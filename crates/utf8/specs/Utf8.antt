@@ -1,6 +1,5 @@
 -- Well-formed UTF-8, by the grammar of RFC 3629, section 4 (document 02, Q-5).
-use Rattle.std.specs.Prelude.{ℕ, ◌≡◌, List, [], ◌∷◌, Bool, true, false, ◌&&◌, leb}
-use Rattle.std.proofs.Math.Option.{Option, none, some}
+use Rattle.std.specs.Prelude.{ℕ, ◌≡◌, List, [], ◌∷◌, Bool, true, false, ◌&&◌, leb, None, Option, Some}
 use Rattle.buffer.specs.Pick.{pick}
 
 -- the values of one byte
@@ -43,17 +42,17 @@ forms =
 
 -- what stands behind a first byte, by the form that it begins; no byte begins two
 unfoldable pub behind : ℕ → List Form → Option (List Range)
-behind b [] = none
-behind b (f ∷ fs) = pick (within f.first b) (some f.rest) (behind b fs)
+behind b [] = None
+behind b (f ∷ fs) = pick (within f.first b) (Some f.rest) (behind b fs)
 
 -- what is left of a character once a byte more has come, if it may stand there; where nothing is left, the byte begins a character
 unfoldable pub after : List Range → ℕ → Option (List Range)
 after [] b = behind b forms
-after (r ∷ rs) b = pick (within r b) (some rs) none
+after (r ∷ rs) b = pick (within r b) (Some rs) None
 
 abbrev pub or_false : (List Range → Bool) → Option (List Range) → Bool
-or_false f none = false
-or_false f (some rs) = f rs
+or_false f None = false
+or_false f (Some rs) = f rs
 
 abbrev pub is_empty : List Range → Bool
 is_empty [] = true

@@ -13,72 +13,57 @@ pub struct Rest {
     pub high: u8,
 }
 
-#[derive(Clone, Copy)]
-pub enum Step {
-    Left(Rest),
-    Malformed,
-}
-
-fn left(count: u8, low: u8, high: u8) -> Step
-    ensures { result ≡ Step.Left (record { count = count; low = low; high = high }) }
+fn left(count: u8, low: u8, high: u8) -> Rest
+    ensures { result ≡ record { count = count; low = low; high = high } }
 {
-    Step::Left(Rest { count, low, high })
+    Rest { count, low, high }
 }
 
 // What stands behind a character's first byte, form by form of the grammar.
-fn begin(b: u8) -> Step
+#[tactic(auto, unfolding(crate::specs::Utf8::behind, crate::specs::Pass::owed, crate::specs::Pass::owed_by))]
+fn begin(b: u8) -> Option<Rest>
     ensures { owed_by result ≡ behind b forms }
 {
     match b {
-        0x00..=0x7F => left(0, 0x80, 0xBF),
-        0xC2..=0xDF => left(1, 0x80, 0xBF),
-        0xE0 => left(2, 0xA0, 0xBF),
-        0xE1..=0xEC => left(2, 0x80, 0xBF),
-        0xED => left(2, 0x80, 0x9F),
-        0xEE..=0xEF => left(2, 0x80, 0xBF),
-        0xF0 => left(3, 0x90, 0xBF),
-        0xF1..=0xF3 => left(3, 0x80, 0xBF),
-        0xF4 => left(3, 0x80, 0x8F),
-        _ => Step::Malformed,
+        0x00..=0x7F => Some(left(0, 0x80, 0xBF)),
+        0xC2..=0xDF => Some(left(1, 0x80, 0xBF)),
+        0xE0 => Some(left(2, 0xA0, 0xBF)),
+        0xE1..=0xEC => Some(left(2, 0x80, 0xBF)),
+        0xED => Some(left(2, 0x80, 0x9F)),
+        0xEE..=0xEF => Some(left(2, 0x80, 0xBF)),
+        0xF0 => Some(left(3, 0x90, 0xBF)),
+        0xF1..=0xF3 => Some(left(3, 0x80, 0xBF)),
+        0xF4 => Some(left(3, 0x80, 0x8F)),
+        _ => None,
     }
 }
 
 // One byte more.
-fn advance(r: Rest, b: u8) -> Step
+#[tactic(auto, unfolding(crate::specs::Utf8::after, crate::specs::Pass::owed, crate::specs::Pass::owed_by))]
+fn advance(r: Rest, b: u8) -> Option<Rest>
     ensures { owed_by result ≡ after (owed r) b }
 {
     if r.count == 0 {
         return begin(b);
     }
-    if b < r.low {
-        return Step::Malformed;
+    if b < r.low || r.high < b {
+        return None;
     }
-    if r.high < b {
-        return Step::Malformed;
-    }
-    left(r.count - 1, 0x80, 0xBF)
+    Some(left(r.count - 1, 0x80, 0xBF))
 }
 
 // Whether bytes are well-formed UTF-8.
+#[tactic(auto, using(crate::proofs::PassLaws::pass_steps), unfolding(crate::specs::Pass::owed_by))]
 pub fn is_utf8(s: &[u8]) -> bool
     ensures { result ≡ is_utf8 s.now }
 {
-    let mut r = Rest {
-        count: 0,
-        low: 0x80,
-        high: 0xBF,
-    };
-    let mut i = 0;
-    while i < s.len() {
-        let b = s[i];
-        i += 1;
+    let mut r = left(0, 0x80, 0xBF);
+    for &b in s {
         // Most text is ASCII.
-        if r.count == 0 {
-            if b < 0x80 {
-                continue;
-            }
+        if r.count == 0 && b < 0x80 {
+            continue;
         }
-        let Step::Left(rest) = advance(r, b) else {
+        let Some(rest) = advance(r, b) else {
             return false;
         };
         r = rest;

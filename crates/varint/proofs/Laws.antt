@@ -1,4 +1,5 @@
 -- Laws of the spellings, one step each.
+use Rattle.std.specs.Prelude.{None}
 use Prim.Native.Nat.{ℕ, zero, suc, ◌+◌, ◌*◌, ◌-◌, ◌/◌, ◌%◌, ◌^◌, ◌≤◌, ◌<◌}
 use mathlib.Core.Path.{◌≡◌, refl, sym, ap, ◌∙◌}
 use mathlib.Core.List.{List, [], ◌∷◌}
@@ -14,8 +15,7 @@ use lib.ListN.{length, get_or, drop, drop_of_length-le, length-append}
 use lib.Pow.{pow_mono, pow-add}
 use lib.Seq.{drop-cons}
 use Rattle.buffer.specs.Pick.{pick}
-use Rattle.varint.specs.Varint.{more, spelt, continued, spelling, varint, two, delimited}
-use Rattle.varint.specs.declared.Varint.TheVariants.{Number, Unreadable}
+use Rattle.varint.specs.Varint.{more, spelt, continued, spelling, varint, two, delimited, stands}
 
 -- one more than the largest number that has a spelling with k bytes after the first
 abbrev pub bound : ℕ → ℕ
@@ -131,15 +131,15 @@ from s i b h e = rw (add-one, e, drop-cons s i 0)
 
 -- reading, a byte b at i at a time, with `left` bytes allowed after it
 module _ (s : List ℕ) (i b : ℕ) (h : i < length s) (e : b ≡ get_or s i 0) where
-  pub read-last : (left : ℕ) → left ≡ 0 → b < 2 → spelt left (drop i s) i ≡ Number b (i + 1) false
+  pub read-last : (left : ℕ) → left ≡ 0 → b < 2 → spelt left (drop i s) i ≡ stands b (i + 1) false
   unfolding spelt
   read-last left z k = rw (z, from s i b h e, lt-ltb b 2 k)
 
-  pub read-over : (left : ℕ) → left ≡ 0 → 2 ≤ b → spelt left (drop i s) i ≡ Unreadable
+  pub read-over : (left : ℕ) → left ≡ 0 → 2 ≤ b → spelt left (drop i s) i ≡ None
   unfolding spelt
   read-over left z k = rw (z, from s i b h e, le-ltb b 2 k)
 
-  pub read-digit : (left : ℕ) → (left ≡ 0 → ⊥) → b < 128 → spelt left (drop i s) i ≡ Number b (i + 1) false
+  pub read-digit : (left : ℕ) → (left ≡ 0 → ⊥) → b < 128 → spelt left (drop i s) i ≡ stands b (i + 1) false
   unfolding spelt
   read-digit zero z k = absurd (z refl)
   read-digit (suc left) z k = rw (from s i b h e, lt-ltb b 128 k)
@@ -149,7 +149,7 @@ module _ (s : List ℕ) (i b : ℕ) (h : i < length s) (e : b ≡ get_or s i 0) 
   read_more zero z k = absurd (z refl)
   read_more (suc left) z k = rw (from s i b h e, le-ltb b 128 k, sub-one (suc left))
 
-pub read_none : (s : List ℕ) (i left : ℕ) → length s ≤ i → spelt left (drop i s) i ≡ Unreadable
+pub read_none : (s : List ℕ) (i left : ℕ) → length s ≤ i → spelt left (drop i s) i ≡ None
 unfolding spelt
 read_none s i left h = rw (drop_of_length-le s {i = i} h)
 

@@ -1,98 +1,102 @@
 // Varints: numbers in bytes of seven bits, the lowest first.
 #![tactic(auto)]
 
-ghost use Rattle.std.specs.Prelude.{ℕ, ◌^◌, ◌≤◌, ◌<◌, ◌≡◌, length, drop, Bool, true};
+ghost use Rattle.std.specs.Prelude.{ℕ, ◌^◌, ◌≤◌, ◌<◌, ◌≡◌, length, drop, Bool, true, false};
 ghost use Rattle.buffer.specs.Put.{Put};
 ghost use Rattle.buffer.specs.Stretch.{fits};
-ghost use Rattle.varint.specs.Varint.{more, spelt, varint_at, varint, two, delimited_at, delimited};
+ghost use Rattle.varint.specs.Varint.{more, spelt, varint_at, varint, two, delimited_at, delimited, stands};
 
-use buffer::Stretch;
-
-// What stands at a position: a number, where the next byte is, and whether its spelling is padded, longer than the shortest; or nothing readable.
+// A number that was read: its value, where the next byte is, and whether its spelling is padded, longer than the shortest.
 #[derive(Clone, Copy)]
-pub enum Varint {
-    Number(u64, usize, bool),
-    Unreadable,
+pub struct Varint {
+    pub value: u64,
+    pub next: usize,
+    pub padded: bool,
 }
 
 // Where length-delimited bytes stand: their start and their end, and whether their length is padded.
 #[derive(Clone, Copy)]
-pub enum Delimited {
-    At(usize, usize, bool),
-    Unreadable,
+pub struct Delimited {
+    pub start: usize,
+    pub end: usize,
+    pub padded: bool,
+}
+
+// A number of one byte or of the last one, in front of `next`.
+fn single(b: u64, next: usize) -> Varint
+    ensures { result ≡ record { value = b; next = next; padded = false } }
+{
+    Varint {
+        value: b,
+        next,
+        padded: false,
+    }
 }
 
 // The number that stands at `at`: at most ten bytes, the tenth 0 or 1. Most have one byte, which is looked at here.
-pub fn read(s: &[u8], at: usize) -> Varint
+pub fn read(s: &[u8], at: usize) -> Option<Varint>
     ensures { result ≡ varint_at s.now at }
 {
-    if s.len() <= at {
-        return Varint::Unreadable;
-    }
-    let b = buffer::wide(s[at]);
+    let b = u64::from(*s.get(at)?);
     if b < 128 {
-        return Varint::Number(b, at + 1, false);
+        return Some(single(b, at + 1));
     }
     joined(b, read_second(s, at + 1))
 }
 
 // The same behind a first byte. Most numbers have one byte or two, so that these are told without recursion.
-fn read_second(s: &[u8], at: usize) -> Varint
+fn read_second(s: &[u8], at: usize) -> Option<Varint>
     ensures { result ≡ spelt 8 (drop at s.now) at }
 {
-    if s.len() <= at {
-        return Varint::Unreadable;
-    }
-    let b = buffer::wide(s[at]);
+    let b = u64::from(*s.get(at)?);
     if b < 128 {
-        return Varint::Number(b, at + 1, false);
+        return Some(single(b, at + 1));
     }
     joined(b, read_bounded(s, at + 1, 7))
 }
 
 // The number that stands at `at`, where `left` bytes may follow the first.
-fn read_bounded(s: &[u8], at: usize, left: u32) -> Varint
+fn read_bounded(s: &[u8], at: usize, left: u32) -> Option<Varint>
     requires { left ≤ 8 }
     ensures { result ≡ spelt left (drop at s.now) at }
 {
-    if s.len() <= at {
-        return Varint::Unreadable;
-    }
-    let b = buffer::wide(s[at]);
+    let b = u64::from(*s.get(at)?);
     if left == 0 {
         if b < 2 {
-            return Varint::Number(b, at + 1, false);
+            return Some(single(b, at + 1));
         }
-        return Varint::Unreadable;
+        return None;
     }
     if b < 128 {
-        return Varint::Number(b, at + 1, false);
+        return Some(single(b, at + 1));
     }
     joined(b, read_bounded(s, at + 1, left - 1))
 }
 
 // The number whose low seven bits are those of `b`, and whose others are the number behind it. Where that is 0, its bytes add nothing.
-fn joined(b: u64, behind: Varint) -> Varint
-    requires { (v next : ℕ) (p : Bool) → behind ≡ Varint.Number v next p → v < 2 ^ 57 }
+fn joined(b: u64, behind: Option<Varint>) -> Option<Varint>
+    requires { (v next : ℕ) (p : Bool) → behind ≡ stands v next p → v < 2 ^ 57 }
     ensures { result ≡ more b behind }
 {
-    let Varint::Number(v, next, padded) = behind else {
-        return Varint::Unreadable;
-    };
-    Varint::Number(b % 128 + 128 * v, next, buffer::either(padded, v == 0))
+    let rest = behind?;
+    Some(Varint {
+        value: b % 128 + 128 * rest.value,
+        next: rest.next,
+        padded: buffer::either(rest.padded, rest.value == 0),
+    })
 }
 
 // The bytes behind a length that stands at `at`.
-pub fn read_delimited(s: &[u8], at: usize) -> Delimited
+pub fn read_delimited(s: &[u8], at: usize) -> Option<Delimited>
     ensures { result ≡ delimited_at s.now at }
 {
-    let Varint::Number(len, start, padded) = read(s, at) else {
-        return Delimited::Unreadable;
-    };
-    let Stretch::To(end) = buffer::end_of(s, start, len) else {
-        return Delimited::Unreadable;
-    };
-    Delimited::At(start, end, padded)
+    let len = read(s, at)?;
+    let end = buffer::end_of(s, len.next, len.value)?;
+    Some(Delimited {
+        start: len.next,
+        end,
+        padded: len.padded,
+    })
 }
 
 // How many bytes the shortest spelling of `v` has: ten, less one for every seven zeros at the top of their

@@ -1,7 +1,7 @@
 // The fields of a message: number, wire type, and the value of a varint or the bytes in hex. The messages were encoded
 // by protoc; the last eleven are damaged or padded.
 use crate::say;
-use protobuf::{Field, Step};
+use protobuf::Field;
 use std::io;
 use std::io::Write;
 
@@ -19,7 +19,7 @@ fn print_field<W: Write>(writer: &mut W, s: &[u8], f: Field) -> io::Result<()> {
 fn print_message<W: Write>(writer: &mut W, s: &[u8]) -> io::Result<()> {
     let mut at = 0;
     while at < s.len() {
-        let Step::Field(f) = protobuf::field_at(s, at) else {
+        let Some(f) = protobuf::field_at(s, at) else {
             return lines::word(writer, b"unreadable\n");
         };
         print_field(writer, s, f)?;

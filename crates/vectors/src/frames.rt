@@ -6,14 +6,14 @@
 // and codes; paths and queries, good and bad. The output to meet was written by a reader in Python, made from RFC 7252,
 // section 3, and document 01 alone. The last record is cut short.
 use crate::say;
-use coap::{CoapOption, Datagram, Frame, Next};
+use coap::{CoapOption, Frame, FrameError, Next};
 use request::{Path, Query};
 use std::io;
 use std::io::Write;
 
 // A blank and a code: class, point, and two digits of detail.
 fn say_code<W: Write>(writer: &mut W, code: u8) -> io::Result<()> {
-    let c = buffer::wide(code);
+    let c = u64::from(code);
     say::number(writer, c / 32)?;
     lines::word(writer, b".")?;
     lines::number(writer, c % 32 / 10)?;
@@ -30,14 +30,12 @@ fn print_option<W: Write>(writer: &mut W, s: &[u8], o: CoapOption) -> io::Result
 fn print_options<W: Write>(writer: &mut W, s: &[u8], from: usize) -> io::Result<()> {
     let mut at = from;
     let mut before = 0;
-    loop {
-        let Next::Option(o) = coap::option_at(s, at, before) else {
-            return Ok(());
-        };
+    while let Some(Next::Option(o)) = coap::option_at(s, at, before) {
         print_option(writer, s, o)?;
         at = o.end;
         before = o.number;
     }
+    Ok(())
 }
 
 fn print_path<W: Write>(writer: &mut W, path: Path) -> io::Result<()> {
@@ -98,14 +96,14 @@ fn print_frame<W: Write>(writer: &mut W, s: &[u8], f: Frame) -> io::Result<()> {
 
 fn print_datagram<W: Write>(writer: &mut W, s: &[u8]) -> io::Result<()> {
     match coap::read(s) {
-        Datagram::Frame(f) => print_frame(writer, s, f),
-        Datagram::Malformed(kind, id) => {
+        Ok(f) => print_frame(writer, s, f),
+        Err(FrameError::Malformed(kind, id)) => {
             lines::word(writer, b"malformed")?;
             say::number(writer, kind as u64)?;
             say::number(writer, id as u64)?;
             lines::word(writer, b"\n")
         }
-        Datagram::Foreign => lines::word(writer, b"foreign\n"),
+        Err(FrameError::Foreign) => lines::word(writer, b"foreign\n"),
     }
 }
 

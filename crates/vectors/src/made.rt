@@ -1,7 +1,7 @@
 // Records that the writers make, each printed in hex; protoc makes the same.
 use csmp::{Hash, Image, Index, Name, SessionId, Version};
 use decimal::Ids;
-use schedule::{Interval, Length, Moment, Point};
+use schedule::{Length, Point};
 use std::io;
 use std::io::Write;
 
@@ -40,20 +40,19 @@ fn session<W: Write>(writer: &mut W) -> io::Result<()> {
 }
 
 fn listed(a: u32, b: u32) -> Ids {
-    let one = decimal::push(decimal::no_ids(), a);
-    decimal::push(one, b)
+    Ids::empty().push(a).push(b)
 }
 
 // A report, one with an interval of 0, and one with nothing in it.
 fn reports<W: Write>(writer: &mut W) -> io::Result<()> {
     let mut out = [0u8; 1024];
-    let every = Interval::Every(Length(60));
+    let every = Some(Length(60));
     let n = encode::put_report(&mut out, 0, every, listed(58, 4294967295));
     made(writer, &out, n)?;
-    let never = Interval::Every(Length(0));
+    let never = Some(Length(0));
     let m = encode::put_report(&mut out, 0, never, listed(0, 22));
     made(writer, &out, m)?;
-    let k = encode::put_report(&mut out, 0, Interval::Absent, decimal::no_ids());
+    let k = encode::put_report(&mut out, 0, None, Ids::empty());
     made(writer, &out, k)
 }
 
@@ -77,9 +76,9 @@ fn responses<W: Write>(writer: &mut W) -> io::Result<()> {
         given: false,
         bytes: [7; 32],
     };
-    let a = encode_image::put_response(&mut out, 0, 71, some, 0, Moment::Absent);
-    let b = encode_image::put_response(&mut out, a, 72, none, 6, Moment::Absent);
-    let n = encode_image::put_response(&mut out, b, 72, some, 0, Moment::At(Point(1)));
+    let a = encode_image::put_response(&mut out, 0, 71, some, 0, None);
+    let b = encode_image::put_response(&mut out, a, 72, none, 6, None);
+    let n = encode_image::put_response(&mut out, b, 72, some, 0, Some(Point(1)));
     made(writer, &out, n)
 }
 
@@ -87,7 +86,7 @@ fn running_and_backup<W: Write>(writer: &mut W) -> io::Result<()> {
     let mut out = [0u8; 1024];
     let n = encode_image::put_running(&mut out, 0, [0; 32]);
     made(writer, &out, n)?;
-    let m = encode_image::put_backup(&mut out, 0, [9; 32], Moment::At(Point(1700000000)));
+    let m = encode_image::put_backup(&mut out, 0, [9; 32], Some(Point(1700000000)));
     made(writer, &out, m)
 }
 
@@ -115,7 +114,7 @@ fn open<W: Write>(writer: &mut W) -> io::Result<()> {
         bitmap,
         held: 2,
     };
-    let n = encode_image::put_open(&mut out, 0, image, 1, Moment::Absent);
+    let n = encode_image::put_open(&mut out, 0, image, 1, None);
     made(writer, &out, n)
 }
 

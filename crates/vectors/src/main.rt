@@ -14,7 +14,6 @@ mod texts;
 
 use std::io;
 use std::io::Write;
-use tlv::Taken;
 
 fn print_as<W: Write>(writer: &mut W, vectors: u64, kind: u64, v: &[u8]) -> io::Result<()> {
     match vectors {
@@ -27,7 +26,7 @@ fn print_as<W: Write>(writer: &mut W, vectors: u64, kind: u64, v: &[u8]) -> io::
 }
 
 fn print_vector<W: Write>(writer: &mut W, vectors: u64, s: &[u8]) -> io::Result<()> {
-    let Taken::Record(r) = tlv::take_record(s, 0) else {
+    let Some(r) = tlv::take_record(s, 0) else {
         return lines::word(writer, b"unreadable\n");
     };
     print_as(writer, vectors, r.kind, buffer::part(s, r.start, r.end))
@@ -36,7 +35,7 @@ fn print_vector<W: Write>(writer: &mut W, vectors: u64, s: &[u8]) -> io::Result<
 fn print_vectors<W: Write>(writer: &mut W, s: &[u8]) -> io::Result<()> {
     let mut at = 0;
     while at < s.len() {
-        let Taken::Record(r) = tlv::take_record(s, at) else {
+        let Some(r) = tlv::take_record(s, at) else {
             return lines::word(writer, b"unreadable\n");
         };
         print_vector(writer, r.kind, buffer::part(s, r.start, r.end))?;

@@ -2,8 +2,8 @@
 // together from such encodings with fields out of order, repeated, padded and unknown, and some are damaged.
 use crate::say;
 use decimal::Ids;
-use protobuf::{Bytes, Flag, Number};
-use schedule::{Interval, Moment};
+use protobuf::Span;
+use schedule::{Length, Point};
 use std::io;
 use std::io::Write;
 
@@ -16,8 +16,8 @@ fn readable<W: Write>(writer: &mut W, b: bool) -> io::Result<()> {
 }
 
 // Bytes in hex; absent ones have a dash, so none are called empty.
-fn bytes<W: Write>(writer: &mut W, v: &[u8], place: Bytes) -> io::Result<()> {
-    let Bytes::At(start, end) = place else {
+fn bytes<W: Write>(writer: &mut W, v: &[u8], place: Option<Span>) -> io::Result<()> {
+    let Some(Span { start, end }) = place else {
         return lines::word(writer, b" -");
     };
     if start == end {
@@ -26,15 +26,15 @@ fn bytes<W: Write>(writer: &mut W, v: &[u8], place: Bytes) -> io::Result<()> {
     say::bytes(writer, buffer::part(v, start, end))
 }
 
-fn given<W: Write>(writer: &mut W, n: Number) -> io::Result<()> {
-    let Number::Given(x) = n else {
+fn given<W: Write>(writer: &mut W, n: Option<u32>) -> io::Result<()> {
+    let Some(x) = n else {
         return lines::word(writer, b" -");
     };
     say::number(writer, x as u64)
 }
 
-fn flag<W: Write>(writer: &mut W, f: Flag) -> io::Result<()> {
-    let Flag::Given(b) = f else {
+fn flag<W: Write>(writer: &mut W, f: Option<bool>) -> io::Result<()> {
+    let Some(b) = f else {
         return lines::word(writer, b" -");
     };
     if b {
@@ -44,15 +44,15 @@ fn flag<W: Write>(writer: &mut W, f: Flag) -> io::Result<()> {
     }
 }
 
-fn moment<W: Write>(writer: &mut W, m: Moment) -> io::Result<()> {
-    let Moment::At(p) = m else {
+fn moment<W: Write>(writer: &mut W, m: Option<Point>) -> io::Result<()> {
+    let Some(p) = m else {
         return lines::word(writer, b" -");
     };
     say::number(writer, p.0 as u64)
 }
 
-fn interval<W: Write>(writer: &mut W, i: Interval) -> io::Result<()> {
-    let Interval::Every(l) = i else {
+fn interval<W: Write>(writer: &mut W, i: Option<Length>) -> io::Result<()> {
+    let Some(l) = i else {
         return lines::word(writer, b" -");
     };
     say::number(writer, l.0 as u64)

@@ -24,15 +24,8 @@ pub fn record<W: Write>(writer: &mut W, kind: u64, v: &[u8]) -> io::Result<()> {
 }
 
 pub fn ids<W: Write>(writer: &mut W, ids: Ids) -> io::Result<()> {
-    let list = ids.list;
-    let n = ids.count;
-    let mut i = 0;
-    while i < n {
-        if 32 <= i {
-            return Ok(());
-        }
-        number(writer, list[i] as u64)?;
-        i += 1;
+    for id in ids.list.iter().take(ids.count) {
+        number(writer, u64::from(*id))?;
     }
     Ok(())
 }

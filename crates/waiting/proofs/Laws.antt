@@ -8,6 +8,7 @@ use native.Mathlib.Omega.{arith}
 use borrow.Author.Tests.{eq-eqb, ne_eqb, lt-ltb, le-ltb, le-leb, lt-leb, eqb-true, eqb-false, ltb-true, ltb-false, leb-false}
 use lib.Dec.{eqb, ltb, leb}
 use lib.ListN.{length, take, drop, set, drop_of_length-le, length-take}
+use Rattle.std.specs.Prelude.{Option, None, Some}
 use Rattle.buffer.specs.Pick.{pick}
 use Rattle.buffer.specs.Put.{placed}
 use Rattle.buffer.proofs.Tests.{split, pick-both, head}
@@ -154,18 +155,19 @@ module _ (l : List Delayed) (h : length l ≡ 4) where
       (λ a b c d. refl) l h
 
 -- none waits; the earliest is not due; it is taken out
-module _ (w : Waiting) (time : Point) (i : ℕ) (e : i ≡ earliest w.list w.count) where
-  pub due-none : w.count ≡ 0 → record { is = false; answer = place_at w.list i; left = w } ≡ due_of w time
+module _ (w : Waiting) (time : Point) where
+  pub due-none : w.count ≡ 0 → None ≡ due_of w time
   unfolding due_of due_at
-  due-none h = rw (← e, eq-eqb w.count 0 h)
+  due-none h = rw (eq-eqb w.count 0 h)
 
+module _ (w : Waiting) (time : Point) (i : ℕ) (e : i ≡ earliest w.list w.count) where
   module _ (h : w.count ≡ 0 → ⊥) (over : ℕ) (o : over ≡ over_at (place_at w.list i)) where
-    pub due-later : time.0 < over → record { is = false; answer = place_at w.list i; left = w } ≡ due_of w time
+    pub due-later : time.0 < over → None ≡ due_of w time
     unfolding due_of due_at
     due-later k = rw (← e, ne_eqb w.count 0 h, ← o, lt-ltb time.0 over k)
 
     pub due-now : over ≤ time.0 → (l : List Delayed) → l ≡ without w.list i
-        → record { is = true; answer = place_at w.list i; left = record { list = l; count = w.count - 1 } } ≡ due_of w time
+        → Some (record { answer = place_at w.list i; left = record { list = l; count = w.count - 1 } }) ≡ due_of w time
     unfolding due_of due_at
     due-now k l f = rw (← e, ne_eqb w.count 0 h, ← o, le-ltb time.0 over k, f)
 
@@ -249,10 +251,9 @@ module _ (w : Waiting) (time : Point) where
   abbrev i : ℕ
   i = earliest w.list w.count
 
-  pub due-cases : (P : Due → Type 0) → (w.count ≡ 0 → P (record { is = false; answer = place_at w.list i; left = w }))
-      → (time.0 < over_in w.list i → P (record { is = false; answer = place_at w.list i; left = w }))
+  pub due-cases : (P : Option Due → Type 0) → (w.count ≡ 0 → P None) → (time.0 < over_in w.list i → P None)
       → (0 < w.count → over_in w.list i ≤ time.0
-      → P (record { is = true; answer = place_at w.list i; left = record { list = without w.list i; count = w.count - 1 } }))
+      → P (Some (record { answer = place_at w.list i; left = record { list = without w.list i; count = w.count - 1 } })))
       → P (due_of w time)
   unfolding due_of due_at
   due-cases P f g h =

@@ -16,7 +16,7 @@ use Rattle.state.specs.declared.Delayed.{Delayed}
 use Rattle.state.specs.declared.Waiting.{Waiting}
 use Rattle.state.specs.declared.What.{What}
 use Rattle.waiting.specs.Sized.{DelayedSized, WaitingSized}
-use Rattle.waiting.specs.Waiting.{is_full, kept, without, due_of}
+use Rattle.waiting.specs.Waiting.{is_full, kept, without, due_of, left_by}
 use Rattle.waiting.proofs.Laws.{without-first, without-second, without-third, without-last, due-cases}
 
 -- four places, each sized, no two with the same slot
@@ -186,7 +186,8 @@ without-sized w s i n k = go i
     go (suc (suc zero)) = subst P (without-third w.list s.list) (sized_of (third-behind (places_of w s)) n k)
     go (suc (suc (suc i))) = subst P (without-last w.list s.list (suc (suc (suc i))) (omega arith)) (sized_of (places_of w s) n k)
 
-pub due-sized : (w : Waiting) (time : Point) → WaitingSized w → WaitingSized (due_of w time).left
+pub due-sized : (w : Waiting) (time : Point) → WaitingSized w → WaitingSized (left_by w (due_of w time))
+unfolding left_by
 due-sized w time s =
-    due-cases w time (λ d. WaitingSized d.left) (λ e. s) (λ e. s)
+    due-cases w time (λ d. WaitingSized (left_by w d)) (λ e. s) (λ e. s)
     (λ e f. without-sized w s _ (w.count - 1) (let z = s.count in omega arith))

@@ -1,5 +1,5 @@
 -- The answers that wait, document 02, Q-1: how long, where their bytes stand, keeping one and taking one out.
-use Rattle.std.specs.Prelude.{ℕ, suc, ◌+◌, ◌-◌, ◌*◌, ◌%◌, List, [], ◌∷◌, ◌++◌, Bool, true, false, eqb, ltb, leb, length, take, drop, set}
+use Rattle.std.specs.Prelude.{ℕ, suc, ◌+◌, ◌-◌, ◌*◌, ◌%◌, List, [], ◌∷◌, ◌++◌, Bool, Option, None, Some, eqb, ltb, leb, length, take, drop, set}
 use Rattle.buffer.specs.Pick.{pick}
 use Rattle.buffer.specs.Put.{placed}
 use Rattle.schedule.specs.declared.Length.{Length}
@@ -69,11 +69,16 @@ unfoldable pub without : List Delayed → ℕ → List Delayed
 without l i = take i l ++ (drop (suc i) l ++ take 1 (drop i l))
 
 -- the earliest is taken out if its wait is over by now
-unfoldable pub due_at : Waiting → Point → ℕ → Due
+unfoldable pub due_at : Waiting → Point → ℕ → Option Due
 due_at w time i =
-    pick (eqb w.count 0) (record { is = false; answer = place_at w.list i; left = w })
-    (pick (ltb time.0 (over_at (place_at w.list i))) (record { is = false; answer = place_at w.list i; left = w })
-    (record { is = true; answer = place_at w.list i; left = record { list = without w.list i; count = w.count - 1 } }))
+    pick (eqb w.count 0) None
+    (pick (ltb time.0 (over_at (place_at w.list i))) None
+    (Some (record { answer = place_at w.list i; left = record { list = without w.list i; count = w.count - 1 } })))
 
-unfoldable pub due_of : Waiting → Point → Due
+unfoldable pub due_of : Waiting → Point → Option Due
 due_of w time = due_at w time (earliest w.list w.count)
+
+-- those that wait on: all of them where none is due
+unfoldable pub left_by : Waiting → Option Due → Waiting
+left_by w None = w
+left_by w (Some d) = d.left

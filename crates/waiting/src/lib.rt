@@ -8,10 +8,9 @@ ghost use Rattle.waiting.specs.Waiting.{wait_of, is_full, url_at, held_at, url_i
 use schedule::{Length, Point};
 use state::{Delayed, Waiting, What};
 
-// The answer that is due, if one is, and those that wait on.
+// An answer that is due, and those that wait on.
 #[derive(Clone, Copy)]
 pub struct Due {
-    pub is: bool,
     pub answer: Delayed,
     pub left: Waiting,
 }
@@ -106,14 +105,12 @@ fn find_earliest(list: [Delayed; 4], count: usize) -> usize
 {
     let mut best = 0;
     let mut over = over_at(list[0]);
-    let mut i = 1;
-    while i < 4 {
+    for i in 1..4 {
         let at = over_at(list[i]);
         if buffer::both(i < count, at < over) {
             best = i;
             over = at;
         }
-        i += 1;
     }
     best
 }
@@ -135,34 +132,22 @@ fn take_out(list: [Delayed; 4], place: usize) -> [Delayed; 4]
 }
 
 // Takes out the answer whose wait is over first, if it is over by now.
-pub fn take_due(waiting: Waiting, time: Point) -> Due
+pub fn take_due(waiting: Waiting, time: Point) -> Option<Due>
     ensures { result ≡ due_of waiting time }
 {
     let list = waiting.list;
     let count = waiting.count;
+    if count == 0 {
+        return None;
+    }
     let place = find_earliest(list, count);
     let answer = list[place];
-    if count == 0 {
-        return Due {
-            is: false,
-            answer,
-            left: waiting,
-        };
-    }
     if (time.0 as u64) < over_at(answer) {
-        return Due {
-            is: false,
-            answer,
-            left: waiting,
-        };
+        return None;
     }
     let left = Waiting {
         list: take_out(list, place),
         count: count - 1,
     };
-    Due {
-        is: true,
-        answer,
-        left,
-    }
+    Some(Due { answer, left })
 }

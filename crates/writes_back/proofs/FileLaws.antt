@@ -1,4 +1,5 @@
 -- Laws of a file that is a capture: its numbers, its rows, its datagrams and its trailer are what its items are written as.
+use Rattle.std.specs.Prelude.{None, Option, Some}
 use Prim.Native.Nat.{ℕ, zero, suc, ◌+◌, ◌*◌, ◌-◌, ◌/◌, ◌%◌, ◌≤◌, ◌<◌}
 use mathlib.Core.Path.{◌≡◌, refl, sym, ap, ◌∙◌}
 use mathlib.Core.List.{List, [], ◌∷◌, ◌++◌}
@@ -9,13 +10,11 @@ use borrow.Author.Tests.{eqb-true, eqb-false, leb-true}
 use lib.Dec.{eqb, leb}
 use lib.ListN.{length, take, drop, length-drop, take-append-drop}
 use lib.Seq.{length-take-le, take-add, take_all, get_or-drop, drop-drop}
-use Rattle.buffer.specs.declared.Stretch.{Stretch}
-use Rattle.buffer.specs.declared.Stretch.TheVariants.{To, Outside}
 use Rattle.buffer.proofs.Tests.{split, both}
-use Rattle.capture.specs.Read.{byte_at, wide16, wide32, entry_in, bytes_at, end_from, index_in, trailer_of, distance_in, count_in, framed, capture_in, entries_from}
+use Rattle.capture.specs.Read.{byte_at, wide16, wide32, entry_in, bytes_at, end_from, indexed, index_in, trailer_of, distance_in, count_in, framed, capture_in, entries_from}
 use Rattle.capture.specs.Write.{bytes16, bytes32, datagrams, row_of, rows, Item, written, items_from}
 use Rattle.capture.specs.declared.Entry.{Entry}
-use Rattle.capture.specs.declared.Capture.TheVariants.{Index, Malformed}
+use Rattle.capture.specs.declared.Index.{Index}
 use Rattle.capture.proofs.Laws.{ends_more, ends-bad, ends-none}
 use Rattle.writes_back.proofs.Bytes.{Bytes, bytes_drop}
 
@@ -70,7 +69,7 @@ module _ (r : List ℕ) (b : Bytes r) (h : 8 ≤ length r) (z : byte_at r 7 ≡ 
       (ap (λ (v : List ℕ). take 4 r ++ (take 2 (drop 4 r) ++ v)) (sym row-end) ∙ ap (λ (v : List ℕ). take 4 r ++ v) row_back ∙ sym (take-add 4 4 r))
 
 -- where a row's datagram ends, and that its last byte is 0
-ends-step : (n : ℕ) (r : List ℕ) (at end : ℕ) → end_from (suc n) r at ≡ To end → (byte_at r 7 ≡ 0) × (end_from n (drop 8 r) (at + wide16 (drop 4 r)) ≡ To end)
+ends-step : (n : ℕ) (r : List ℕ) (at end : ℕ) → end_from (suc n) r at ≡ Some end → (byte_at r 7 ≡ 0) × (end_from n (drop 8 r) (at + wide16 (drop 4 r)) ≡ Some end)
 ends-step n r at end e =
     split (eqb (byte_at r 7) 0)
     (λ t. let z = eqb-true (byte_at r 7) 0 t in (z, sym (ends_more n r at z) ∙ e))
@@ -84,7 +83,7 @@ record Held (s : List ℕ) (n : ℕ) (r : List ℕ) (at end : ℕ) : Type 0 wher
   count : length (items_from s at (entries_from n r)) ≡ n
 
 module _ (s : List ℕ) (end : ℕ) (w : end ≤ length s) where
-  held_none : (r : List ℕ) (at : ℕ) → To at ≡ To end → Held s zero r at end
+  held_none : (r : List ℕ) (at : ℕ) → Some at ≡ Some end → Held s zero r at end
   unfolding rows datagrams items_from entries_from
   held_none r at e =
       let f : at ≡ end = cc in
@@ -117,7 +116,7 @@ module _ (s : List ℕ) (end : ℕ) (w : end ≤ length s) where
         count = ap suc k.count;
       }
 
-  held : (n : ℕ) (r : List ℕ) (at : ℕ) → Bytes r → n * 8 ≤ length r → end_from n r at ≡ To end → Held s n r at end
+  held : (n : ℕ) (r : List ℕ) (at : ℕ) → Bytes r → n * 8 ≤ length r → end_from n r at ≡ Some end → Held s n r at end
   held zero r at b h e = held_none r at (sym (ends-none r at) ∙ e)
   held (suc n) r at b h e =
       let t = ends-step n r at end e in
@@ -129,23 +128,29 @@ pub record Framed (s : List ℕ) (index count : ℕ) : Type 0 where
   pub long : length s ≡ index + (count * 8 + 6)
   pub distance : wide32 (trailer_of s) ≡ count * 8 + 6
   pub number : wide16 (drop 4 (trailer_of s)) ≡ count
-  pub ends : end_from count (drop index s) 0 ≡ To index
+  pub ends : end_from count (drop index s) 0 ≡ Some index
 
-index-told : (i c : ℕ) (r : Stretch) (index count : ℕ) → index_in i c r ≡ Index index count → (i ≡ index) × (c ≡ count) × (r ≡ To index)
+-- what a capture says, by its index
+told : (i c index count : ℕ) → indexed i c ≡ indexed index count → (i ≡ index) × (c ≡ count)
+told i c index count e =
+    let f : ◌≡◌ {A = Index} (record { at = i; count = c }) (record { at = index; count = count }) = cc in
+    (ap (λ (x : Index). x.at) f, ap (λ (x : Index). x.count) f)
+
+index-told : (i c : ℕ) (r : Option ℕ) (index count : ℕ) → index_in i c r ≡ indexed index count → (i ≡ index) × (c ≡ count) × (r ≡ Some index)
 unfolding index_in
-index-told i c (To end) index count e =
+index-told i c (Some end) index count e =
     split (eqb end i)
-    (λ t. let k = eqb-true end i t in let f : Index i c ≡ Index index count = rw t at e in let g : i ≡ index = cc in (g, cc, ap To (k ∙ g)))
-    (λ t. let f : Malformed ≡ Index index count = rw t at e in let z : ◌≡◌ {A = ℕ} 0 1 = cc in absurd (omega arith))
-index-told i c Outside index count e = let z : ◌≡◌ {A = ℕ} 0 1 = cc in absurd (omega arith)
+    (λ t. let k = eqb-true end i t in let f = told i c index count (rw t at e) in (f.0, f.1, ap Some (k ∙ f.0)))
+    (λ t. let f : None ≡ indexed index count = rw t at e in let z : ◌≡◌ {A = ℕ} 0 1 = cc in absurd (omega arith))
+index-told i c None index count e = let z : ◌≡◌ {A = ℕ} 0 1 = cc in absurd (omega arith)
 
-capture-told : (s : List ℕ) (index count : ℕ) → capture_in s ≡ Index index count
-    → (framed s ≡ true) × (index_in (length s - distance_in s) (count_in s) (end_from (count_in s) (drop (length s - distance_in s) s) 0) ≡ Index index count)
+capture-told : (s : List ℕ) (index count : ℕ) → capture_in s ≡ indexed index count
+    → (framed s ≡ true) × (index_in (length s - distance_in s) (count_in s) (end_from (count_in s) (drop (length s - distance_in s) s) 0) ≡ indexed index count)
 unfolding capture_in
 capture-told s index count e =
     split (framed s)
     (λ t. (t, rw t at e))
-    (λ t. let f : Malformed ≡ Index index count = rw t at e in let z : ◌≡◌ {A = ℕ} 0 1 = cc in absurd (omega arith))
+    (λ t. let f : None ≡ indexed index count = rw t at e in let z : ◌≡◌ {A = ℕ} 0 1 = cc in absurd (omega arith))
 
 framed-told : (s : List ℕ) → framed s ≡ true → (distance_in s ≡ count_in s * 8 + 6) × (distance_in s ≤ length s)
 unfolding framed
@@ -155,7 +160,7 @@ framed-told s e =
     let c = both (eqb (distance_in s) (count_in s * 8 + 6)) (leb (distance_in s) (length s)) b.1 in
     (eqb-true (distance_in s) (count_in s * 8 + 6) c.0, leb-true (distance_in s) (length s) c.1)
 
-pub capture-framed : (s : List ℕ) (index count : ℕ) → capture_in s ≡ Index index count → Framed s index count
+pub capture-framed : (s : List ℕ) (index count : ℕ) → capture_in s ≡ indexed index count → Framed s index count
 unfolding distance_in count_in
 capture-framed s index count e =
     let t = capture-told s index count e in

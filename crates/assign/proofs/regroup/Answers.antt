@@ -6,4 +6,4 @@ pub returns-then-place-ge8 : goal.returns-then-place-ge8
 returns-then-place-ge8 c = regrouped-not _ _ _ _ c.place_of-place.ensures c.if-place-ge8.true
 
 pub returns : goal.returns
-returns c = regrouped-pair _ _ _ _ c.place_of-place.ensures c.if-place-ge8.false _ c.with_pair-groups.ensures
+returns c = regrouped-pair _ _ _ _ c.place_of-place.ensures c.if-place-ge8.false _ c.with_pair.ensures

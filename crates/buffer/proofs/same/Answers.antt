@@ -1,30 +1,20 @@
--- What is left to show, goal by goal.
-use mathlib.Core.Path.{refl, sym, ap, ◌∙◌}
-use mathlib.Core.Bool.{Bool, ◌&&◌}
+-- `buffer::same` meets its contract: a fold over the pairs looks at every one.
+use mathlib.Core.Path.{sym, ◌∙◌}
+use mathlib.Core.Bool.{true, ◌&&◌}
 use native.Mathlib.Omega.{arith}
-use Rattle.buffer.proofs.Sames.{same_length, same_here, same_not, unlike, alike_all, same_end}
+use lib.Dec.{eqb}
+use Rattle.std.proofs.Common.{rules, tests}
+use Rattle.std.proofs.lemmas.Iterator.{YieldsList-from_slice, YieldsList-from_zip}
+use Rattle.std.proofs.lemmas.Iterator.Consumers.{fold_from_yields_List}
+use Rattle.buffer.proofs.Sames.{same_length, same_folded}
 use Rattle.buffer.proofs.same.Goals as goal
-use Rattle.buffer.proofs.same.Goals.{then-a-i, else-a-i}
 
 pub returns-then-a-b : goal.returns-then-a-b
-returns-then-a-b c = sym (same_length _ _ c.if-a-b.true)
-
-pub loop-i-init : goal.loop-i-init
-loop-i-init c = (refl, omega arith)
-
-pub loop-i-preserved : goal.loop-i-preserved
-loop-i-preserved c =
-    let l = c.loop-i in
-    let g = c.args in
-    let z = l.invariant.0 in (
-      elim c.if-a-i.branch [
-        | then-a-i w ↦ rw w.alike-is (unlike l.alike z (same_not g.a.now g.b.now l.i (omega arith) (omega arith) w.if-a-i.true))
-        | else-a-i w ↦ rw w.alike-is (z ∙ ap (λ (s : Bool). l.alike && s) (same_here g.a.now g.b.now l.i (omega arith) (omega arith) w.if-a-i.false))
-      ],
-      omega arith,
-    )
+returns-then-a-b c = sym (same_length _ _ (λ e. omega arith))
 
 pub returns : goal.returns
-returns c = let l = c.loop-i in
-    let g = c.args in
-    alike_all l.alike l.invariant.0 (same_end g.a.now g.b.now l.i (omega arith) (omega arith))
+returns c = let g = c.args in
+    fold_from_yields_List _ (λ s p. s && eqb p.0 p.1) true _ c.fold.ensures.ran
+    (YieldsList-from_zip (YieldsList-from_slice g.a.now cc) (YieldsList-from_slice g.b.now cc))
+    (λ s p t q k. search (rules, tests))
+    ∙ same_folded g.a.now g.b.now true c.if-a-b.false

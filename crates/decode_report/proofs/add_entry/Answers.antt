@@ -9,4 +9,4 @@ returns-in_default c = sym (ap (with_id _) (sym c.read.ensures ∙ c.in_default.
 
 pub returns : goal.returns
 unfolding with_entry with_id
-returns c = c.push.ensures ∙ sym (ap (with_id _) (sym c.read.ensures ∙ c.in-Given.is))
+returns c = c.push.ensures ∙ sym (ap (with_id _) (sym c.read.ensures ∙ c.in-Some.is))

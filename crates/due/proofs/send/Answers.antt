@@ -6,4 +6,4 @@ pub returns-then-len-eq0 : goal.returns-then-len-eq0
 returns-then-len-eq0 c = λ g. send-none _ _ _ _ _ _ c.put_answer-len.ensures g c.if-len-eq0.true c.silent.ensures
 
 pub returns : goal.returns
-returns c = λ g. send-some _ _ _ _ _ _ c.put_answer-len.ensures g c.if-len-eq0.false c.take_id-registration.ensures c.url_of.ensures c.url_of-url.ensures
+returns c = λ g. send-some _ _ _ _ _ _ c.put_answer-len.ensures g c.if-len-eq0.false c.take_id-registration.ensures c.url_of.ensures c.of-url.ensures

@@ -4,4 +4,4 @@ use Rattle.due.proofs.Laws.{silent-is}
 use Rattle.due.proofs.silent.Goals as goal
 
 pub returns : goal.returns
-returns c = silent-is _ _ refl c.url_of-url.ensures
+returns c = silent-is _ _ refl c.of-url.ensures

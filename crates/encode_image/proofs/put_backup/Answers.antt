@@ -1,12 +1,11 @@
 -- `encode_image::put_backup` meets its contract: the fields make the value, which fits its buffer, and the record holds it.
+use Rattle.std.specs.Prelude.{None}
 use mathlib.Core.Path.{sym}
-use mathlib.Core.Option.{none}
 use native.Mathlib.Nat.{le_of_eq}
 use lib.Dec.{lit≤}
 use lib.ListN.{replicate}
 use lib.Seq.{length-take-le}
 use Rattle.buffer.proofs.Puts.{done, next, Whole}
-use Rattle.protobuf.specs.Given.{number_given}
 use Rattle.protobuf.specs.Write.{if_any}
 use Rattle.tables.specs.Table.{written, write_by}
 use Rattle.csmp.specs.Values.{moment_number}
@@ -19,7 +18,7 @@ use Rattle.encode_image.proofs.put_backup.Goals.{After-put_given-n}
 -- the puts left the value at the front of the buffer
 value : (c : After-put_given-n)
     → Whole (replicate 128 0)
-    (image_value 2 c.args.hash none none none none none none c.args.time)
+    (image_value 2 c.args.hash None None None None None None c.args.time)
     c.put_given-n.new.out c.put_given-n.result
 unfolding if_any written write_by
 value c =
@@ -30,7 +29,7 @@ value c =
     done)))
     (upto (number-most 1 _)
     (upto (bytes_most 2 32 _ (le_of_eq (search rules)))
-    (upto (number-if-most 10 (number_given (moment_number c.args.time)))
+    (upto (number-if-most 10 (moment_number c.args.time))
     nil)))
     (lit≤ tt)
 

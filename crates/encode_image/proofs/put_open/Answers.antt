@@ -5,7 +5,6 @@ use lib.Dec.{lit≤}
 use lib.ListN.{take, replicate}
 use lib.Seq.{length-take-le}
 use Rattle.buffer.proofs.Puts.{done, next, Whole}
-use Rattle.protobuf.specs.Given.{number_given}
 use Rattle.protobuf.specs.Write.{if_any}
 use Rattle.tables.specs.Table.{written, write_by}
 use Rattle.csmp.specs.Values.{moment_number}
@@ -40,7 +39,7 @@ value c =
     (upto (number-most 5 _)
     (upto (number-most 6 _)
     (upto (bytes_most 7 128 _ (take-most c.args.map_len 128 image.bitmap (search rules)))
-    (upto (number-if-most 10 (number_given (moment_number c.args.time)))
+    (upto (number-if-most 10 (moment_number c.args.time))
     nil))))))))
     (lit≤ tt)
 

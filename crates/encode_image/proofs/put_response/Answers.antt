@@ -1,12 +1,12 @@
 -- `encode_image::put_response` meets its contract: the fields make the value, which fits its buffer, and the record holds it.
+use Rattle.std.specs.Prelude.{Some}
 use mathlib.Core.Path.{sym}
-use mathlib.Core.Option.{some}
 use native.Mathlib.Nat.{le_of_eq}
 use lib.Dec.{lit≤}
 use lib.ListN.{replicate}
 use lib.Seq.{length-take-le}
 use Rattle.buffer.proofs.Puts.{done, next, Whole}
-use Rattle.protobuf.specs.Given.{number_given, if_given}
+use Rattle.protobuf.specs.Given.{if_given}
 use Rattle.protobuf.specs.Write.{if_any, bytes_field}
 use Rattle.tables.specs.Table.{written, write_by}
 use Rattle.csmp.specs.Tables
@@ -21,7 +21,7 @@ use Rattle.encode_image.proofs.put_response.Goals.{After-put_given-n}
 value : (c : After-put_given-n)
     → Whole (replicate 128 0)
     (write_by Tables.load_response
-    (if_given c.args.hash.given c.args.hash.bytes, (some c.args.answer, (number_given (moment_number c.args.time), tt))))
+    (if_given c.args.hash.given c.args.hash.bytes, (Some c.args.answer, (moment_number c.args.time, tt))))
     c.put_given-n.new.out c.put_given-n.result
 unfolding if_any written write_by
 value c =
@@ -33,7 +33,7 @@ value c =
     done)))
     (upto (bytes-if-most 1 32 h.given h.bytes (le_of_eq (search rules)))
     (upto (number-most 2 _)
-    (upto (number-if-most 3 (number_given (moment_number c.args.time)))
+    (upto (number-if-most 3 (moment_number c.args.time))
     nil)))
     (lit≤ tt)
 

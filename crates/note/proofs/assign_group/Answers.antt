@@ -6,5 +6,8 @@ use Rattle.note.proofs.assign_group.Goals as goal
 pub returns-then-n-ge8 : goal.returns-then-n-ge8
 returns-then-n-ge8 c = c.mark.ensures ∙ sym (ninth-unreadable _ _ _ c.if-n-ge8.true)
 
+pub returns-in_default : goal.returns-in_default
+returns-in_default c = eight-assigned _ _ _ c.if-n-ge8.false _ (sym c.regroup.ensures ∙ c.in_default.is)
+
 pub returns : goal.returns
-returns c = rw (c.either.ensures, c.regroup-regrouped.ensures) (eight-assigned _ _ _ c.if-n-ge8.false)
+returns c = eight-assigned _ _ _ c.if-n-ge8.false _ (sym c.regroup.ensures ∙ c.in-Some.is)

@@ -1,5 +1,4 @@
 -- What is left to show, goal by goal.
-use Prim.Native.Nat.{◌-◌}
 use mathlib.Core.Path.{sym, ap, ◌∙◌}
 use native.Mathlib.Omega.{arith}
 use Rattle.message.specs.declared.Reading.{Reading}
@@ -37,17 +36,17 @@ returns-in_default c =
 
 pub slice_bounds-read_block-count : goal.slice_bounds-read_block-count
 slice_bounds-read_block-count c =
-    let i = record-inside c.args.payload.now c.loop-at.at _ (sym c.take_record.ensures ∙ c.in-Record.is) in
+    let i = record-inside c.args.payload.now c.loop-at.at _ (sym c.take_record.ensures ∙ c.in-Some.is) in
     omega arith
 
 pub slice_bounds-read_block-start : goal.slice_bounds-read_block-start
 slice_bounds-read_block-start c =
-    let i = record-inside c.args.payload.now c.loop-at.at _ (sym c.take_record.ensures ∙ c.in-Record.is) in
+    let i = record-inside c.args.payload.now c.loop-at.at _ (sym c.take_record.ensures ∙ c.in-Some.is) in
     omega arith
 
 pub slice_bounds-read_block-end : goal.slice_bounds-read_block-end
 slice_bounds-read_block-end c =
-    let i = record-inside c.args.payload.now c.loop-at.at _ (sym c.take_record.ensures ∙ c.in-Record.is) in
+    let i = record-inside c.args.payload.now c.loop-at.at _ (sym c.take_record.ensures ∙ c.in-Some.is) in
     omega arith
 
 pub note_block-seen-requires : goal.note_block-seen-requires
@@ -58,17 +57,17 @@ note_block-seen-requires c =
 
 pub slice_bounds-v-count : goal.slice_bounds-v-count
 slice_bounds-v-count c =
-    let i = record-inside c.args.payload.now c.loop-at.at _ (sym c.take_record.ensures ∙ c.in-Record.is) in
+    let i = record-inside c.args.payload.now c.loop-at.at _ (sym c.take_record.ensures ∙ c.in-Some.is) in
     omega arith
 
 pub slice_bounds-v-start : goal.slice_bounds-v-start
 slice_bounds-v-start c =
-    let i = record-inside c.args.payload.now c.loop-at.at _ (sym c.take_record.ensures ∙ c.in-Record.is) in
+    let i = record-inside c.args.payload.now c.loop-at.at _ (sym c.take_record.ensures ∙ c.in-Some.is) in
     omega arith
 
 pub slice_bounds-v-end : goal.slice_bounds-v-end
 slice_bounds-v-end c =
-    let i = record-inside c.args.payload.now c.loop-at.at _ (sym c.take_record.ensures ∙ c.in-Record.is) in
+    let i = record-inside c.args.payload.now c.loop-at.at _ (sym c.take_record.ensures ∙ c.in-Some.is) in
     omega arith
 
 pub note-seen-requires : goal.note-seen-requires
@@ -79,7 +78,7 @@ note-seen-requires c =
 
 pub loop-at-smaller-then-r-eq67 : goal.loop-at-smaller-then-r-eq67
 loop-at-smaller-then-r-eq67 c =
-    let i = record-inside c.args.payload.now c.loop-at.at _ (sym c.take_record.ensures ∙ c.in-Record.is) in
+    let i = record-inside c.args.payload.now c.loop-at.at _ (sym c.take_record.ensures ∙ c.in-Some.is) in
     omega arith
 
 pub loop-at-preserved-then-r-eq67 : goal.loop-at-preserved-then-r-eq67
@@ -88,7 +87,7 @@ loop-at-preserved-then-r-eq67 c =
     let p = a.payload.now in
     let l = c.loop-at in
     let b = c.read_block-block.ensures in
-    let e = sym c.take_record.ensures ∙ c.in-Record.is in
+    let e = sym c.take_record.ensures ∙ c.in-Some.is in
     let i = record-inside p l.at _ e in
     let z = c.if-r-eq67.true in
     let k = c.note_block-seen.ensures a.groups a.time _ b in
@@ -102,7 +101,7 @@ loop-at-preserved-then-r-eq67 c =
 
 pub loop-at-smaller : goal.loop-at-smaller
 loop-at-smaller c =
-    let i = record-inside c.args.payload.now c.loop-at.at _ (sym c.take_record.ensures ∙ c.in-Record.is) in
+    let i = record-inside c.args.payload.now c.loop-at.at _ (sym c.take_record.ensures ∙ c.in-Some.is) in
     omega arith
 
 pub loop-at-preserved : goal.loop-at-preserved
@@ -110,7 +109,7 @@ loop-at-preserved c =
     let a = c.args in
     let p = a.payload.now in
     let l = c.loop-at in
-    let e = sym c.take_record.ensures ∙ c.in-Record.is in
+    let e = sym c.take_record.ensures ∙ c.in-Some.is in
     let i = record-inside p l.at _ e in
     let n = noted-count a.groups a.time l.seen _ _ c.note-seen.result c.note-seen.ensures in (
       l.invariant.0 ∙ looked-next a.groups a.time p l.at l.seen _ c.note-seen.result e c.note-seen.ensures,

@@ -1,22 +1,58 @@
 -- `refusal::datagram_refusal` meets its contract: the refusals in number order.
-use mathlib.Core.Path.{sym, ◌∙◌}
-use Rattle.refusal.proofs.Laws.{refused-1, refused-2, refused-3, refused-4, refused-5, unrefused}
+use mathlib.Core.Path.{refl}
+use native.Mathlib.Omega.{arith}
+use Rattle.refusal.proofs.Laws.{of-datagram, refuses, refuses_numbered, goes-on, ends, ends_numbered}
+use Rattle.refusal.specs.Refusal.{number_of}
 use Rattle.refusal.proofs.datagram_refusal.Goals as goal
 
-pub returns-then-out-lt1280 : goal.returns-then-out-lt1280
-returns-then-out-lt1280 c = sym (refused-1 _ _ _ _ _ _ c.if-out-lt1280.true)
+pub returns-in_err-checked-clause-outcome : goal.returns-in_err-checked-clause-outcome
+unfolding number_of
+returns-in_err-checked-clause-outcome c = of-datagram _ _ _ _ _ _ refl (refuses _ _ _ _ c.in_err-checked.ensures c.from_residual.ensures.1)
 
-pub returns-then-image-image_len : goal.returns-then-image-image_len
-returns-then-image-image_len c = sym (refused-2 _ _ _ _ _ _ c.if-out-lt1280.false c.if-image-image_len.true)
+pub returns-in_err-checked-2-clause-outcome : goal.returns-in_err-checked-2-clause-outcome
+unfolding number_of
+returns-in_err-checked-2-clause-outcome c =
+    of-datagram _ _ _ _ _ _ refl
+    (goes-on _ _ c.in_ok-checked.ensures (refuses _ _ _ _ c.in_err-checked-2.ensures c.from_residual-in_err-checked-2.ensures.1))
 
-pub returns-then-verdict-gt2 : goal.returns-then-verdict-gt2
-returns-then-verdict-gt2 c = sym (refused-3 _ _ _ _ _ _ c.if-out-lt1280.false c.if-image-image_len.false c.if-verdict-gt2.true)
+pub returns-in_err-checked-3-clause-outcome : goal.returns-in_err-checked-3-clause-outcome
+unfolding number_of
+returns-in_err-checked-3-clause-outcome c =
+    of-datagram _ _ _ _ _ _ refl
+    (goes-on _ _ c.in_ok-checked.ensures
+    (goes-on _ _ c.in_ok-checked-2.ensures (refuses _ _ _ _ c.in_err-checked-3.ensures c.from_residual-in_err-checked-3.ensures.1)))
 
-pub returns-then-not-is_acceptable : goal.returns-then-not-is_acceptable
-returns-then-not-is_acceptable c = sym (refused-4 _ _ _ _ _ _ c.if-out-lt1280.false c.if-image-image_len.false c.if-verdict-gt2.false (sym c.is_acceptable.ensures ∙ c.if-not-is_acceptable.true))
+pub returns-in_err-checked-4-clause-outcome : goal.returns-in_err-checked-4-clause-outcome
+unfolding number_of
+returns-in_err-checked-4-clause-outcome c =
+    of-datagram _ _ _ _ _ _ c.is_acceptable.ensures
+    (goes-on _ _ c.in_ok-checked.ensures
+    (goes-on _ _ c.in_ok-checked-2.ensures
+    (goes-on _ _ c.in_ok-checked-3.ensures (refuses _ _ _ _ c.in_err-checked-4.ensures c.from_residual-in_err-checked-4.ensures.1))))
 
-pub returns-then-len-gt1280 : goal.returns-then-len-gt1280
-returns-then-len-gt1280 c = sym (refused-5 _ _ _ _ _ _ c.if-out-lt1280.false c.if-image-image_len.false c.if-verdict-gt2.false (sym c.is_acceptable.ensures ∙ c.if-not-is_acceptable.false) c.if-len-gt1280.true)
+pub returns-clause-outcome : goal.returns-clause-outcome
+unfolding number_of
+returns-clause-outcome c =
+    of-datagram _ _ _ _ _ _ c.is_acceptable.ensures
+    (goes-on _ _ c.in_ok-checked.ensures
+    (goes-on _ _ c.in_ok-checked-2.ensures (goes-on _ _ c.in_ok-checked-3.ensures (goes-on _ _ c.in_ok-checked-4.ensures (ends _ _ c.checked-5.ensures)))))
 
-pub returns : goal.returns
-returns c = sym (unrefused _ _ _ _ _ _ c.if-out-lt1280.false c.if-image-image_len.false c.if-verdict-gt2.false (sym c.is_acceptable.ensures ∙ c.if-not-is_acceptable.false) c.if-len-gt1280.false)
+pub returns-in_err-checked-clause-numbered : goal.returns-in_err-checked-clause-numbered
+unfolding number_of
+returns-in_err-checked-clause-numbered c = refuses_numbered _ _ _ c.in_err-checked.ensures c.from_residual.ensures.1 (λ f z. absurd (omega arith))
+
+pub returns-in_err-checked-2-clause-numbered : goal.returns-in_err-checked-2-clause-numbered
+unfolding number_of
+returns-in_err-checked-2-clause-numbered c = refuses_numbered _ _ _ c.in_err-checked-2.ensures c.from_residual-in_err-checked-2.ensures.1 (λ f z. absurd (omega arith))
+
+pub returns-in_err-checked-3-clause-numbered : goal.returns-in_err-checked-3-clause-numbered
+unfolding number_of
+returns-in_err-checked-3-clause-numbered c = refuses_numbered _ _ _ c.in_err-checked-3.ensures c.from_residual-in_err-checked-3.ensures.1 (λ f z. absurd (omega arith))
+
+pub returns-in_err-checked-4-clause-numbered : goal.returns-in_err-checked-4-clause-numbered
+unfolding number_of
+returns-in_err-checked-4-clause-numbered c = refuses_numbered _ _ _ c.in_err-checked-4.ensures c.from_residual-in_err-checked-4.ensures.1 (λ f z. absurd (omega arith))
+
+pub returns-clause-numbered : goal.returns-clause-numbered
+unfolding number_of
+returns-clause-numbered c = ends_numbered _ _ c.checked-5.ensures (λ f z. absurd (omega arith))

@@ -1,16 +1,33 @@
 -- `refusal::own_refusal` meets its contract: the refusals in number order.
-use mathlib.Core.Path.{sym, ◌∙◌}
-use Rattle.refusal.proofs.Laws.{own-1, own-4, own-undue, own-due}
+use mathlib.Core.Path.{refl}
+use native.Mathlib.Omega.{arith}
+use Rattle.refusal.proofs.Laws.{of-own, refuses, refuses_numbered, goes-on, ends, ends_numbered}
+use Rattle.refusal.specs.Refusal.{number_of}
 use Rattle.refusal.proofs.own_refusal.Goals as goal
 
-pub returns-then-out-lt1280 : goal.returns-then-out-lt1280
-returns-then-out-lt1280 c = sym (own-1 _ _ _ _ c.if-out-lt1280.true)
+pub returns-in_err-checked-clause-outcome : goal.returns-in_err-checked-clause-outcome
+unfolding number_of
+returns-in_err-checked-clause-outcome c = of-own _ _ _ _ refl (refuses _ _ _ _ c.in_err-checked.ensures c.from_residual.ensures.1)
 
-pub returns-then-not-is_acceptable : goal.returns-then-not-is_acceptable
-returns-then-not-is_acceptable c = sym (own-4 _ _ _ _ c.if-out-lt1280.false (sym c.is_acceptable.ensures ∙ c.if-not-is_acceptable.true))
+pub returns-in_err-checked-2-clause-outcome : goal.returns-in_err-checked-2-clause-outcome
+unfolding number_of
+returns-in_err-checked-2-clause-outcome c =
+    of-own _ _ _ _ c.is_acceptable.ensures
+    (goes-on _ _ c.in_ok-checked.ensures (refuses _ _ _ _ c.in_err-checked-2.ensures c.from_residual-in_err-checked-2.ensures.1))
 
-pub returns-then-not-due : goal.returns-then-not-due
-returns-then-not-due c = sym (own-undue _ _ _ _ c.if-out-lt1280.false (sym c.is_acceptable.ensures ∙ c.if-not-is_acceptable.false) c.if-not-due.true)
+pub returns-clause-outcome : goal.returns-clause-outcome
+unfolding number_of
+returns-clause-outcome c =
+    of-own _ _ _ _ c.is_acceptable.ensures (goes-on _ _ c.in_ok-checked.ensures (goes-on _ _ c.in_ok-checked-2.ensures (ends _ _ c.checked-3.ensures)))
 
-pub returns : goal.returns
-returns c = sym (own-due _ _ _ _ c.if-out-lt1280.false (sym c.is_acceptable.ensures ∙ c.if-not-is_acceptable.false) c.if-not-due.false)
+pub returns-in_err-checked-clause-numbered : goal.returns-in_err-checked-clause-numbered
+unfolding number_of
+returns-in_err-checked-clause-numbered c = λ w. refuses_numbered _ _ _ c.in_err-checked.ensures c.from_residual.ensures.1 (λ f z. absurd (omega arith))
+
+pub returns-in_err-checked-2-clause-numbered : goal.returns-in_err-checked-2-clause-numbered
+unfolding number_of
+returns-in_err-checked-2-clause-numbered c = λ w. refuses_numbered _ _ _ c.in_err-checked-2.ensures c.from_residual-in_err-checked-2.ensures.1 (λ f z. absurd (omega arith))
+
+pub returns-clause-numbered : goal.returns-clause-numbered
+unfolding number_of
+returns-clause-numbered c = λ w. ends_numbered _ _ c.checked-3.ensures (λ f. w f)

@@ -7,4 +7,4 @@ pub returns-in_default : goal.returns-in_default
 returns-in_default c = sym (follows-none _ _ c.read_redirect-r.ensures c.in_default.is)
 
 pub returns : goal.returns
-returns c = sym (follows-some _ _ c.read_redirect-r.ensures _ _ c.in-At.is)
+returns c = sym (follows-some _ _ c.read_redirect-r.ensures _ _ c.in-Some.is)

@@ -8,4 +8,4 @@ returns-in_default c = rw c.in_default.is
 
 pub returns : goal.returns
 unfolding is_set
-returns c = rw c.in-Given.is
+returns c = rw c.in-Some.is

@@ -6,4 +6,4 @@ pub returns-in_default : goal.returns-in_default
 returns-in_default c = positive-none _ c.in_default.is
 
 pub returns : goal.returns
-returns c = positive-some _ _ c.in-Every.is
+returns c = positive-some _ _ c.in-Some.is

@@ -1,5 +1,4 @@
 -- What is left to show, goal by goal.
-use Prim.Native.Nat.{◌-◌}
 use mathlib.Core.Path.{refl, sym, ◌∙◌}
 use native.Mathlib.Omega.{arith}
 use Rattle.std.proofs.Common.{rules}
@@ -17,29 +16,29 @@ returns-in_default c =
 
 pub slice_bounds-run_record-count : goal.slice_bounds-run_record-count
 slice_bounds-run_record-count c =
-    let i = record-inside c.args.payload.now c.loop-at.at _ (sym c.take_record.ensures ∙ c.in-Record.is) in
+    let i = record-inside c.args.payload.now c.loop-at.at _ (sym c.take_record.ensures ∙ c.in-Some.is) in
     omega arith
 
 pub slice_bounds-run_record-start : goal.slice_bounds-run_record-start
 slice_bounds-run_record-start c =
-    let i = record-inside c.args.payload.now c.loop-at.at _ (sym c.take_record.ensures ∙ c.in-Record.is) in
+    let i = record-inside c.args.payload.now c.loop-at.at _ (sym c.take_record.ensures ∙ c.in-Some.is) in
     omega arith
 
 pub slice_bounds-run_record-end : goal.slice_bounds-run_record-end
 slice_bounds-run_record-end c =
-    let i = record-inside c.args.payload.now c.loop-at.at _ (sym c.take_record.ensures ∙ c.in-Record.is) in
+    let i = record-inside c.args.payload.now c.loop-at.at _ (sym c.take_record.ensures ∙ c.in-Some.is) in
     omega arith
 
 pub loop-at-smaller : goal.loop-at-smaller
 loop-at-smaller c =
-    let i = record-inside c.args.payload.now c.loop-at.at _ (sym c.take_record.ensures ∙ c.in-Record.is) in
+    let i = record-inside c.args.payload.now c.loop-at.at _ (sym c.take_record.ensures ∙ c.in-Some.is) in
     omega arith
 
 pub loop-at-preserved : goal.loop-at-preserved
 loop-at-preserved c =
     let l = c.loop-at in
     let s = c.run_record-ran.ensures in (
-      λ h. going_next _ _ _ _ _ _ l.at _ _ _ _ _ _ _ (l.invariant.0 h) (sym c.take_record.ensures ∙ c.in-Record.is) s.world s.appended,
+      λ h. going_next _ _ _ _ _ _ l.at _ _ _ _ _ _ _ (l.invariant.0 h) (sym c.take_record.ensures ∙ c.in-Some.is) s.world s.appended,
       search rules,
       search rules,
     )

@@ -6,28 +6,31 @@ use Rattle.varint.proofs.Laws.{read-last, read-over, read-digit, read_more, read
 use Rattle.varint.proofs.Theorems.{spelt-small}
 use Rattle.varint.proofs.+read_bounded.Goals as goal
 
-pub returns-then-s-at : goal.returns-then-s-at
-returns-then-s-at t c =
+pub returns-in_err-get : goal.returns-in_err-get
+returns-in_err-get t c =
     let a = c.args in
-    sym (read_none a.s.now a.at a.left c.if-s-at.true)
+    c.from_residual.ensures ∙ sym (read_none a.s.now a.at a.left c.in_err-get.ensures.lookup.3)
 
 pub returns-then-b-lt2 : goal.returns-then-b-lt2
 returns-then-b-lt2 t c =
     let a = c.args in
-    let w = c.wide-b in
-    sym (read-last a.s.now a.at w.result (omega arith) w.ensures a.left c.if-left-eq0.true (omega arith))
+    let w = c.from-b in
+    let g = c.in_ok-get.ensures.lookup.3 in
+    rw c.single.ensures (sym (read-last a.s.now a.at w.result g.0 (w.ensures ∙ g.1 0) a.left c.if-left-eq0.true (omega arith)))
 
 pub returns-then-left-eq0 : goal.returns-then-left-eq0
 returns-then-left-eq0 t c =
     let a = c.args in
-    let w = c.wide-b in
-    sym (read-over a.s.now a.at w.result (omega arith) w.ensures a.left c.if-left-eq0.true (omega arith))
+    let w = c.from-b in
+    let g = c.in_ok-get.ensures.lookup.3 in
+    sym (read-over a.s.now a.at w.result g.0 (w.ensures ∙ g.1 0) a.left c.if-left-eq0.true (omega arith))
 
 pub returns-then-b-lt128 : goal.returns-then-b-lt128
 returns-then-b-lt128 t c =
     let a = c.args in
-    let w = c.wide-b in
-    sym (read-digit a.s.now a.at w.result (omega arith) w.ensures a.left c.if-left-eq0.false c.if-b-lt128.true)
+    let w = c.from-b in
+    let g = c.in_ok-get.ensures.lookup.3 in
+    rw c.single-then-b-lt128.ensures (sym (read-digit a.s.now a.at w.result g.0 (w.ensures ∙ g.1 0) a.left c.if-left-eq0.false c.if-b-lt128.true))
 
 pub read_bounded-requires : goal.read_bounded-requires
 read_bounded-requires t c = (omega arith, omega arith)
@@ -39,6 +42,7 @@ joined-requires t c =
 pub returns : goal.returns
 returns t c =
     let a = c.args in
-    let w = c.wide-b in
+    let w = c.from-b in
+    let g = c.in_ok-get.ensures.lookup.3 in
     c.joined.ensures ∙ ap (more w.result) c.read_bounded.ensures
-    ∙ sym (read_more a.s.now a.at w.result (omega arith) w.ensures a.left c.if-left-eq0.false c.if-b-lt128.false)
+    ∙ sym (read_more a.s.now a.at w.result g.0 (w.ensures ∙ g.1 0) a.left c.if-left-eq0.false c.if-b-lt128.false)

@@ -1,12 +1,8 @@
 -- `waiting::find_earliest` meets its contract: the best so far, or one of those left.
-use Prim.Native.Nat.{◌-◌, ◌≤◌}
 use mathlib.Core.Path.{◌≡◌}
 use Rattle.waiting.specs.Waiting.{earliest}
 use Rattle.waiting.proofs.Laws.{rest_from}
 use Rattle.waiting.proofs.find_earliest.Given as goal
 
 abbrev pub invariant-loop-i : goal.invariant-loop-i
-invariant-loop-i l = (earliest l.list l.count ≡ rest_from l.list l.count l.best l.over l.i) × (l.i ≤ 4)
-
-abbrev pub decreases-loop-i : goal.decreases-loop-i
-decreases-loop-i l = 4 - l.i
+invariant-loop-i l = earliest l.list l.count ≡ rest_from l.list l.count l.best l.over l.i

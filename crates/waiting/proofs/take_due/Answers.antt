@@ -19,7 +19,7 @@ bounds-list-place c =
     omega (arith, earliest-within c.args.waiting.list c.args.waiting.count (omega arith))
 
 pub returns-then-count-eq0 : goal.returns-then-count-eq0
-returns-then-count-eq0 c = due-none _ _ _ c.find_earliest-place.ensures c.if-count-eq0.true
+returns-then-count-eq0 c = due-none _ _ c.if-count-eq0.true
 
 pub returns-then-time-over_at : goal.returns-then-time-over_at
 returns-then-time-over_at c = due-later _ _ _ c.find_earliest-place.ensures c.if-count-eq0.false _ c.over_at.ensures c.if-time-over_at.true

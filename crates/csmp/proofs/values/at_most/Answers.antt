@@ -9,8 +9,8 @@ unfolding at_most
 returns-in_default c = sym (ap (at_most _) c.in_default.is)
 
 pub returns-then-end-start : goal.returns-then-end-start
-returns-then-end-start c = sym (at-most-none _ _ _ _ c.if-end-start.true c.in-At.is)
+returns-then-end-start c = sym (at-most-none _ _ _ _ c.if-end-start.true c.in-Some.is)
 
 pub returns : goal.returns
 unfolding at_most
-returns c = sym (ap (at_most _) c.in-At.is)
+returns c = sym (ap (at_most _) c.in-Some.is)

@@ -10,4 +10,4 @@ returns-in_default c = sym (ap (field_is _ _ _) c.in_default.is)
 
 pub returns : goal.returns
 unfolding field_is
-returns c = c.same.ensures ∙ ap (same_bytes _) c.part.ensures ∙ sym (ap (field_is _ _ _) c.in-At.is)
+returns c = c.same.ensures ∙ ap (same_bytes _) c.part.ensures ∙ sym (ap (field_is _ _ _) c.in-Some.is)

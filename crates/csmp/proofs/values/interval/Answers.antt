@@ -9,4 +9,4 @@ returns-in_default c = sym (ap interval_of c.in_default.is)
 
 pub returns : goal.returns
 unfolding interval_of
-returns c = sym (ap interval_of c.in-Given.is)
+returns c = sym (ap interval_of c.in-Some.is)

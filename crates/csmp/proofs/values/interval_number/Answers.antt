@@ -9,4 +9,4 @@ returns-in_default c = sym (ap interval_number c.in_default.is)
 
 pub returns : goal.returns
 unfolding interval_number
-returns c = sym (ap interval_number c.in-Every.is)
+returns c = sym (ap interval_number c.in-Some.is)

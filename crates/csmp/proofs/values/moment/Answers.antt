@@ -9,4 +9,4 @@ returns-in_default c = sym (ap moment_of c.in_default.is)
 
 pub returns : goal.returns
 unfolding moment_of
-returns c = sym (ap moment_of c.in-Given.is)
+returns c = sym (ap moment_of c.in-Some.is)

@@ -9,4 +9,4 @@ returns-in_default c = sym (ap moment_number c.in_default.is)
 
 pub returns : goal.returns
 unfolding moment_number
-returns c = sym (ap moment_number c.in-At.is)
+returns c = sym (ap moment_number c.in-Some.is)

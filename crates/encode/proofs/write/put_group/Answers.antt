@@ -1,6 +1,6 @@
 -- `encode::write::put_group` meets its contract: the fields make the value, which fits its buffer, and the record holds it.
+use Rattle.std.specs.Prelude.{Some}
 use mathlib.Core.Path.{sym}
-use mathlib.Core.Option.{some}
 use lib.Dec.{lit≤}
 use lib.ListN.{replicate}
 use lib.Seq.{length-take-le}
@@ -15,7 +15,7 @@ use Rattle.encode.proofs.write.put_group.Goals.{After-put_number-n}
 
 -- the puts left the value at the front of the buffer
 value : (c : After-put_number-n)
-    → Whole (replicate 64 0) (write_by Tables.group (some c.args.kind, (some c.args.id, tt))) c.put_number-n.new.out c.put_number-n.result
+    → Whole (replicate 64 0) (write_by Tables.group (Some c.args.kind, (Some c.args.id, tt))) c.put_number-n.new.out c.put_number-n.result
 unfolding if_any written write_by
 value c =
     whole

@@ -1,14 +1,13 @@
 -- `encode::write::put_report` meets its contract: the fields make the value, which fits its buffer, and the record holds it.
+use Rattle.std.specs.Prelude.{None}
 use mathlib.Core.Path.{sym}
 use mathlib.Core.List.{[], map}
-use mathlib.Core.Option.{none}
 use lib.Dec.{lit≤}
 use lib.ListN.{replicate}
 use lib.Seq.{length-take-le}
 use Rattle.buffer.proofs.Puts.{done, next, Whole}
 use Rattle.decimal.specs.Decimal.{decimal}
 use Rattle.decimal.specs.Ids.{held}
-use Rattle.protobuf.specs.Given.{number_given}
 use Rattle.protobuf.specs.Write.{if_any, each}
 use Rattle.tables.specs.Table.{written, write_by}
 use Rattle.csmp.specs.Tables
@@ -23,7 +22,7 @@ use Rattle.encode.proofs.write.put_report.Goals.{After-put_texts-n}
 -- the puts left the value at the front of the buffer
 value : (c : After-put_texts-n)
     → Whole (replicate 1024 0)
-    (write_by Tables.report_subscribe (number_given (interval_number c.args.interval), (map decimal (held c.args.ids), (none, ([], tt)))))
+    (write_by Tables.report_subscribe (interval_number c.args.interval, (map decimal (held c.args.ids), (None, ([], tt)))))
     c.put_texts-n.new.out c.put_texts-n.result
 unfolding written write_by if_any each
 value c =
@@ -32,7 +31,7 @@ value c =
     (next (rw c.interval_number.ensures at c.put_given-a.ensures)
     (next (rw (c.front_ids.ensures, texts-each) at c.put_texts-n.ensures)
     done))
-    (upto (number-if-most 1 (number_given (interval_number c.args.interval)))
+    (upto (number-if-most 1 (interval_number c.args.interval))
     (upto (list-most 2 32 ids.count ids.list (search rules))
     nil))
     (lit≤ tt)

@@ -1,6 +1,6 @@
 -- `encode::write::put_session` meets its contract: the fields make the value, which fits its buffer, and the record holds it.
+use Rattle.std.specs.Prelude.{Some}
 use mathlib.Core.Path.{sym}
-use mathlib.Core.Option.{some}
 use lib.Dec.{lit≤}
 use lib.ListN.{take, replicate}
 use lib.Seq.{length-take-le}
@@ -17,13 +17,13 @@ use Rattle.encode.proofs.write.put_session.Goals.{After-put_bytes-n}
 -- the puts left the value at the front of the buffer
 value : (c : After-put_bytes-n)
     → Whole (replicate 128 0)
-    (write_by Tables.session (some (take c.args.id.len c.args.id.bytes), tt))
+    (write_by Tables.session (Some (take c.args.id.len c.args.id.bytes), tt))
     c.put_bytes-n.new.out c.put_bytes-n.result
 unfolding if_any written write_by
 value c =
     let id = c.args.id in
     whole
-    (next (rw c.front.ensures at c.put_bytes-n.ensures) done)
+    (next (rw c.letters.ensures at c.put_bytes-n.ensures) done)
     (upto (bytes_most 1 64 _ (take-most id.len 64 id.bytes (search rules))) nil)
     (lit≤ tt)
 

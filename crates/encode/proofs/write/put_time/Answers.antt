@@ -1,6 +1,6 @@
 -- `encode::write::put_time` meets its contract: the fields make the value, which fits its buffer, and the record holds it.
+use Rattle.std.specs.Prelude.{None, Some}
 use mathlib.Core.Path.{sym}
-use mathlib.Core.Option.{none, some}
 use lib.Dec.{lit≤}
 use lib.ListN.{replicate}
 use lib.Seq.{length-take-le}
@@ -15,7 +15,7 @@ use Rattle.encode.proofs.write.put_time.Goals.{After-put_number-n}
 
 -- the puts left the value at the front of the buffer
 value : (c : After-put_number-n)
-    → Whole (replicate 32 0) (write_by Tables.current_time (some c.args.time.0, (none, (none, tt)))) c.put_number-n.new.out c.put_number-n.result
+    → Whole (replicate 32 0) (write_by Tables.current_time (Some c.args.time.0, (None, (None, tt)))) c.put_number-n.new.out c.put_number-n.result
 unfolding if_any written write_by
 value c = whole (next c.put_number-n.ensures done) (upto (number-most 1 _) nil) (lit≤ tt)
 

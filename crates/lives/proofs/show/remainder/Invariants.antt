@@ -1,9 +1,6 @@
--- The sum stays below the modulus, and the index rises to the length.
-use Rattle.std.proofs.Common.{◌-◌, ◌<◌, length}
+-- The sum stays below the modulus.
+use Rattle.std.proofs.Common.{◌<◌}
 use Rattle.lives.proofs.show.remainder.Given as goal
 
-abbrev pub invariant-loop-i : goal.invariant-loop-i
-invariant-loop-i l = l.sum < 65521
-
-abbrev pub decreases-loop-i : goal.decreases-loop-i
-decreases-loop-i l = length l.s - l.i
+abbrev pub invariant-loop-b : goal.invariant-loop-b
+invariant-loop-b l = l.sum < 65521

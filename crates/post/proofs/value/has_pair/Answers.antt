@@ -1,5 +1,5 @@
 -- What is left to show, goal by goal.
-use Prim.Native.Nat.{◌-◌, ◌<◌}
+use Prim.Native.Nat.{◌<◌}
 use mathlib.Core.Path.{◌≡◌, sym, ◌∙◌}
 use native.Mathlib.Omega.{arith}
 use lib.ListN.{length, length-take}
@@ -17,23 +17,11 @@ returns-then-groups-i c =
     let h = c.if-groups-i.true in
     sym (c.loop-i.invariant ∙ pair_end a.groups c.loop-i.i a.kind a.id (omega (arith, length-take a.groups.count a.groups.list)))
 
-pub offset_bounds-list-i : goal.offset_bounds-list-i
-offset_bounds-list-i c = let h = c.loop-i-test.true in omega arith
-
-pub bounds-list-i : goal.bounds-list-i
-bounds-list-i c = c.loop-i-test.true
-
 pub returns-then-pair-id : goal.returns-then-pair-id
 returns-then-pair-id c =
     let a = c.args in
     let l = c.loop-i in
     sym (l.invariant ∙ pair-here a.groups l.i a.kind a.id c.if-groups-i.false (let e : length a.groups.list ≡ 8 = search rules in omega arith) c.if-pair-kind.true c.if-pair-id.true)
-
-pub overflow_add-i : goal.overflow_add-i
-overflow_add-i c = let h = c.loop-i-test.true in omega arith
-
-pub loop-i-smaller : goal.loop-i-smaller
-loop-i-smaller c = let h = c.loop-i-test.true in omega arith
 
 pub loop-i-preserved : goal.loop-i-preserved
 loop-i-preserved c =

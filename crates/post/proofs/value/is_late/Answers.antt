@@ -8,4 +8,4 @@ returns-in_default c = rw c.in_default.is
 
 pub returns : goal.returns
 unfolding is_late
-returns c = rw c.in-At.is c.before-2.ensures
+returns c = rw c.in-Some.is c.before-2.ensures

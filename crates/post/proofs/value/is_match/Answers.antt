@@ -10,7 +10,7 @@ pub returns-in_default : goal.returns-in_default
 returns-in_default c = sym (match-no-kind _ _ _ c.if-kind-ne57.false (rw c.read_group-m.ensures at c.in_default.is))
 
 pub returns-in_default-given_id : goal.returns-in_default-given_id
-returns-in_default-given_id c = sym (match-no-id _ _ _ c.if-kind-ne57.false _ (rw c.read_group-m.ensures at c.in-Given.is) (rw c.read_group-m.ensures at c.in_default-given_id.is))
+returns-in_default-given_id c = sym (match-no-id _ _ _ c.if-kind-ne57.false _ (rw c.read_group-m.ensures at c.in-Some.is) (rw c.read_group-m.ensures at c.in_default-given_id.is))
 
 pub returns : goal.returns
-returns c = c.has_pair.ensures ∙ sym (match-pair _ _ _ c.if-kind-ne57.false _ _ (rw c.read_group-m.ensures at c.in-Given.is) (rw c.read_group-m.ensures at c.in-Given-given_id.is))
+returns c = c.has_pair.ensures ∙ sym (match-pair _ _ _ c.if-kind-ne57.false _ _ (rw c.read_group-m.ensures at c.in-Some.is) (rw c.read_group-m.ensures at c.in-Some-given_id.is))

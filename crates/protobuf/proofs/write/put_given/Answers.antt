@@ -8,4 +8,4 @@ returns-in_default c = rw c.in_default.is c.put.ensures
 
 pub returns : goal.returns
 unfolding if_any
-returns c = rw c.in-Given.is c.put_number.ensures
+returns c = rw c.in-Some.is c.put_number.ensures

@@ -1,5 +1,4 @@
 -- What is left to show, goal by goal.
-use Prim.Native.Nat.{◌-◌}
 use mathlib.Core.Path.{refl, sym, ◌∙◌}
 use native.Mathlib.Omega.{arith}
 use Rattle.std.proofs.Common.{rules}
@@ -21,33 +20,33 @@ returns-then-needs_more c = c.loop-at.invariant.0
 
 pub block_at-block-requires : goal.block_at-block-requires
 block_at-block-requires c =
-    let i = record-inside c.args.payload.now c.loop-at.at _ (sym c.take_record.ensures ∙ c.in-Record.is) in
+    let i = record-inside c.args.payload.now c.loop-at.at _ (sym c.take_record.ensures ∙ c.in-Some.is) in
     (omega arith, omega arith, c.requires)
 
 pub slice_bounds-v-count : goal.slice_bounds-v-count
 slice_bounds-v-count c =
-    let i = record-inside c.args.payload.now c.loop-at.at _ (sym c.take_record.ensures ∙ c.in-Record.is) in
+    let i = record-inside c.args.payload.now c.loop-at.at _ (sym c.take_record.ensures ∙ c.in-Some.is) in
     omega arith
 
 pub slice_bounds-v-start : goal.slice_bounds-v-start
 slice_bounds-v-start c =
-    let i = record-inside c.args.payload.now c.loop-at.at _ (sym c.take_record.ensures ∙ c.in-Record.is) in
+    let i = record-inside c.args.payload.now c.loop-at.at _ (sym c.take_record.ensures ∙ c.in-Some.is) in
     omega arith
 
 pub slice_bounds-v-end : goal.slice_bounds-v-end
 slice_bounds-v-end c =
-    let i = record-inside c.args.payload.now c.loop-at.at _ (sym c.take_record.ensures ∙ c.in-Record.is) in
+    let i = record-inside c.args.payload.now c.loop-at.at _ (sym c.take_record.ensures ∙ c.in-Some.is) in
     omega arith
 
 pub loop-at-smaller-then-both : goal.loop-at-smaller-then-both
 loop-at-smaller-then-both c =
-    let i = record-inside c.args.payload.now c.loop-at.at _ (sym c.take_record.ensures ∙ c.in-Record.is) in
+    let i = record-inside c.args.payload.now c.loop-at.at _ (sym c.take_record.ensures ∙ c.in-Some.is) in
     omega arith
 
 pub loop-at-preserved-then-both : goal.loop-at-preserved-then-both
 loop-at-preserved-then-both c =
     let l = c.loop-at in
-    let e = sym c.take_record.ensures ∙ c.in-Record.is in
+    let e = sym c.take_record.ensures ∙ c.in-Some.is in
     let n = sym c.needs_more.ensures ∙ c.if-needs_more.false in (
       λ i o h p.
           front-block i _ _ (l.invariant.0 i o h p) _ e n o c.both.ensures c.if-both.true
@@ -57,13 +56,13 @@ loop-at-preserved-then-both c =
 
 pub loop-at-smaller : goal.loop-at-smaller
 loop-at-smaller c =
-    let i = record-inside c.args.payload.now c.loop-at.at _ (sym c.take_record.ensures ∙ c.in-Record.is) in
+    let i = record-inside c.args.payload.now c.loop-at.at _ (sym c.take_record.ensures ∙ c.in-Some.is) in
     omega arith
 
 pub loop-at-preserved : goal.loop-at-preserved
 loop-at-preserved c =
     let l = c.loop-at in
-    let e = sym c.take_record.ensures ∙ c.in-Record.is in
+    let e = sym c.take_record.ensures ∙ c.in-Some.is in
     let n = sym c.needs_more.ensures ∙ c.if-needs_more.false in (
       λ i o h p. front-skipped i _ _ (l.invariant.0 i o h p) _ e n o c.both.ensures c.if-both.false,
       search rules,

@@ -2,4 +2,4 @@
 use Rattle.state.proofs.setup.none_assigned.Goals as goal
 
 pub returns : goal.returns
-returns c = rw (c.no_ids.ensures, c.no_groups.ensures)
+returns c = rw (c.empty.ensures, c.no_groups.ensures, c.of.ensures)

@@ -17,10 +17,10 @@ pub returns-in_default-place : goal.returns-in_default-place
 returns-in_default-place c =
     λ i h p. let a = c.args in
     left-dataless i a.flash.now p a.v.now a.block h (sym c.field_is.ensures ∙ c.if-not-field_is.false)
-    c.in-Given.is c.in_default-place.is
+    c.in-Some.is c.in_default-place.is
 
 pub returns : goal.returns
 returns c =
     λ i h p. let x = c in let a = x.args in
     left-this i a.flash.now p a.v.now a.block h (sym x.field_is.ensures ∙ x.if-not-field_is.false)
-    x.in-Given.is x.in-At.is c.part.ensures (c.put_block.ensures i p)
+    x.in-Some.is x.in-Some-place.is c.part.ensures (c.put_block.ensures i p)
