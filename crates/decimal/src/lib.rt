@@ -93,16 +93,17 @@ impl Ids {
         }
     }
 
-    // One id more, where there is a place for it.
+    // One id more, where there is a place for it. The list is built anew: changed in place, `self` is copied once more, which costs twice the time.
     #[tactic(auto, unfolding(crate::specs::Ids::pushed))]
-    pub fn push(mut self, id: u32) -> Ids
+    pub fn push(self, id: u32) -> Ids
         ensures { result ≡ pushed self id }
     {
-        if 32 <= self.count {
+        let n = self.count;
+        if 32 <= n {
             return self;
         }
-        self.list[self.count] = id;
-        self.count += 1;
-        self
+        let mut list = self.list;
+        list[n] = id;
+        Ids { list, count: n + 1 }
     }
 }

@@ -91,22 +91,14 @@ fn assign_group(learnt: Learnt, kind: u32, id: u32) -> Learnt
     if 8 <= n {
         return mark(learnt, false);
     }
-    let group_assigns = n + 1;
+    let mut next = learnt;
+    next.group_assigns = n + 1;
     let Some(groups) = assign::regroup(learnt.assigned.groups, kind, id) else {
-        return Learnt {
-            group_assigns,
-            needs_ninth: true,
-            ..learnt
-        };
+        next.needs_ninth = true;
+        return next;
     };
-    Learnt {
-        assigned: Assigned {
-            groups,
-            ..learnt.assigned
-        },
-        group_assigns,
-        ..learnt
-    }
+    next.assigned.groups = groups;
+    next
 }
 
 // A complete GroupAssign; another is ignored.
