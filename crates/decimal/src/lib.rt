@@ -93,7 +93,7 @@ impl Ids {
         }
     }
 
-    // One id more, where there is a place for it. The list is built anew: changed in place, `self` is copied once more, which costs twice the time.
+    // One id more, where there is a place for it. Changed in place, `self` would be copied once more.
     #[tactic(auto, unfolding(crate::specs::Ids::pushed))]
     pub fn push(self, id: u32) -> Ids
         ensures { result ≡ pushed self id }
