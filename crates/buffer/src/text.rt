@@ -9,7 +9,7 @@ pub struct Text<const N: usize> {
 }
 
 impl<const N: usize> Text<N> {
-    // As many of the bytes as there is room for.
+    // As many of the bytes as there is room for; the length is that of all of them.
     pub fn of(s: &[u8]) -> Text<N>
         ensures { result ≡ text_of N s.now }
     {
